@@ -1,0 +1,4 @@
+pub mod Names
+pub mod Letters
+pub mod Sounds
+pub mod Spellings

@@ -1,0 +1,5 @@
+pub mod Expr
+pub mod Sessions
+pub mod Places
+pub mod Tables
+pub mod Laws

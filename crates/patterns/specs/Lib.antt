@@ -1,0 +1,9 @@
+pub mod Drafts
+pub mod Nodes
+pub mod Patterns
+pub mod Reading
+pub mod Reads
+pub mod Refusals
+pub mod Rules
+pub mod Tables
+pub mod Texts

@@ -1,0 +1,4 @@
+pub mod Texts
+pub mod Spellings
+pub mod Finds
+pub mod Fills
