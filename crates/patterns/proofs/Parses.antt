@@ -53,6 +53,11 @@ some-stand m ls lawful some =
     ap (λ xs. standing (nodes m xs)) cut ∙ ap standing (map-push f front last) ∙ pushes-more [] (nodes m front) (f last) in
     subst (λ es. 1 ≤ length es) (sym is) (push-some (f last) (standing (nodes m front)) (lawful k lt .follows .operands))
 
+-- the first line with the alphabet's number of letters, however it was come by
+pub first-line : (text start after : List ℕ) (n k count : ℕ) → start ≡ text → start ≡ header-bytes k count ++ (10 ∷ after) → k ≡ n
+    → text ≡ header-bytes n count ++ (10 ∷ after)
+first-line text start after n k count is stands same = sym is ∙ stands ∙ ap (λ j. header-bytes j count ++ (10 ∷ after)) same
+
 module _ (m : Meaning) (sound : Sound m) (text : List ℕ) (count : ℕ) (short : length text ≤ 4096) (some : 1 ≤ count) (few : count ≤ 127)
     (body : List ℕ) (whole : text ≡ header-bytes (m .n) count ++ (10 ∷ body)) where
   pub begins : (ls : List (Kind × ℕ)) (after : List ℕ) → Lines m body ls after → length ls ≤ count → Begins m text count ls after

@@ -1,6 +1,5 @@
 use Prim.Native.Nat.{_+_, _≤_}
-use Rattle.notation.specs.Notation.{header-bytes}
-use Rattle.patterns.proofs.Parses.{wrong-text, left-over, accepted}
+use Rattle.patterns.proofs.Parses.{first-line, wrong-text, left-over, accepted}
 use Rattle.patterns.proofs.reading.parse.Needs as need
 use Rattle.patterns.specs.Nodes.{standing}
 use Rattle.patterns.specs.Reading.{RefusesText}
@@ -8,7 +7,7 @@ use Rattle.patterns.specs.Reads.{Lines}
 use Rattle.texts.specs.Lines.{rest}
 use borrow.Author.Needs.{needs}
 use lib.ListN.{length}
-use mathlib.Core.List.{_∷_, [], _++_}
+use mathlib.Core.List.{[]}
 use mathlib.Core.Path.{_≡_, sym, ap, subst, _∙_}
 
 pub returns-in-Err-body : need.returns-in-Err-body
@@ -16,7 +15,7 @@ returns-in-Err-body g c =
     let m = g .A·Alphabet .meaning (c .args .alphabet .now) in
     let opens = c .in-Ok .ensures tt in
     let after = rest (c .opening .last .cursor) in
-    let whole = sym (c .new-cursor .ensures .rest) ∙ opens .2 ∙ ap (λ n. header-bytes n (c .in-Ok .count) ++ (10 ∷ after)) (c .letters-letters .ensures) in
+    let whole = first-line _ _ after _ _ (c .in-Ok .count) (c .new-cursor .ensures .rest) (opens .2) (c .letters-letters .ensures) in
     wrong-text m (g .A·Alphabet·met .sound (c .args .alphabet .now)) (c .args .text .now) (c .in-Ok .count) (search needs) (opens .0) (opens .1) after whole
     (c .in-Err-body .fault .why) (c .in-Err-body .fault .line) (c .in-Err-body .ensures tt)
 
@@ -25,7 +24,7 @@ returns-in-Ok-finish g c =
     let m = g .A·Alphabet .meaning (c .args .alphabet .now) in
     let opens = c .in-Ok .ensures tt in
     let after = rest (c .opening .last .cursor) in
-    let whole = sym (c .new-cursor .ensures .rest) ∙ opens .2 ∙ ap (λ n. header-bytes n (c .in-Ok .count) ++ (10 ∷ after)) (c .letters-letters .ensures) in
+    let whole = first-line _ _ after _ _ (c .in-Ok .count) (c .new-cursor .ensures .rest) (opens .2) (c .letters-letters .ensures) in
     let draws = c .in-rest .ensures tt in
     let over : rest (c .body .last .cursor) ≡ [] = search needs in
     let read = subst (λ t. Lines m after (draws .0) t) over (draws .1) in
@@ -39,7 +38,7 @@ returns-in-Err-finish g c =
     let m = g .A·Alphabet .meaning (c .args .alphabet .now) in
     let opens = c .in-Ok .ensures tt in
     let after = rest (c .opening .last .cursor) in
-    let whole = sym (c .new-cursor .ensures .rest) ∙ opens .2 ∙ ap (λ n. header-bytes n (c .in-Ok .count) ++ (10 ∷ after)) (c .letters-letters .ensures) in
+    let whole = first-line _ _ after _ _ (c .in-Ok .count) (c .new-cursor .ensures .rest) (opens .2) (c .letters-letters .ensures) in
     let draws = c .in-rest .ensures tt in
     let over : rest (c .body .last .cursor) ≡ [] = search needs in
     let read = subst (λ t. Lines m after (draws .0) t) over (draws .1) in
