@@ -2,6 +2,7 @@
 use Prim.Native.Nat.{ℕ, zero, suc, _+_, _-_, _^_, _<_, _≤_}
 use Rattle.bitsets.specs.Sets.{has}
 use Rattle.bitsets.specs.declared.SmallSet.{SmallSet}
+use Rattle.expressions.proofs.Derivatives.{derives-iff}
 use Rattle.expressions.proofs.Tables.{taken-takes, decides-ends}
 use Rattle.expressions.proofs.Theorem.{places-know-sessions}
 use Rattle.expressions.specs.Expr.{Expr, derives, nullable}
@@ -83,6 +84,11 @@ module _ (e : Expr) (s m : ℕ) (r : Bool) (meets : m ≡ bitAnd s (endings e)) 
   ends-session w v t to-t to-s =
       let both = places-know-sessions e w v t s to-t to-s in
       decides-like (not r) (both .0) (both .1) ends-so
+
+  pub ends-whole : (w v : List ℕ) (t : ℕ) → Leads e 1 w t → Leads e t v s → Decides (not r) (Session e (w ++ v))
+  ends-whole w v t to-t to-s =
+      let both = derives-iff e w v in
+      decides-like (not r) (both .0) (both .1) (ends-session w v t to-t to-s)
 
 -- one part is laid where one pattern stands
 pub one-laid : (es : List Expr) (x : Part) → length (laid es) ≡ 1 → x ≡ getD (laid es) 0 x

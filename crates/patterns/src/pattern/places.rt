@@ -7,7 +7,7 @@ ghost use Rattle.expressions.specs.Tables.{followers, united};
 ghost use Rattle.patterns.specs.Patterns.{expr-of};
 ghost use Rattle.std.specs.Of.Vec.{vec-len};
 ghost use Rattle.std.specs.Orderings.{Decides};
-ghost use mathlib.Core.List.{List};
+ghost use mathlib.Core.List.{List, _++_};
 ghost use mathlib.Core.Path.{_≡_};
 use crate::pattern::Pattern;
 use bitsets::SmallSet;
@@ -53,10 +53,11 @@ impl Pattern {
 
     /// Whether a session can end at one of these places. The places that a word leads to from the
     /// start tell whether what came after any first part of it is a session of the pattern's
-    /// derivative by that part.
+    /// derivative by that part, and so whether the whole word is a session of the pattern.
     pub fn ends(&self, places: SmallSet) -> bool
         ensures ends { λ r. ⌜ Decides r (Ends (expr-of (now (self .entry))) (places .bits)) ⌝ }
         ensures sessions { λ r. ⌜ ((w v : List ℕ) (s : ℕ) → Leads (expr-of (now (self .entry))) 1 w s → Leads (expr-of (now (self .entry))) s v (places .bits) → Decides r (Session (derives w (expr-of (now (self .entry)))) v)) ⌝ }
+        ensures whole { λ r. ⌜ ((w v : List ℕ) (s : ℕ) → Leads (expr-of (now (self .entry))) 1 w s → Leads (expr-of (now (self .entry))) s v (places .bits) → Decides r (Session (expr-of (now (self .entry))) (w ++ v))) ⌝ }
     {
         !places.common(self.finals).is_empty()
     }

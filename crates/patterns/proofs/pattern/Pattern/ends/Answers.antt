@@ -1,4 +1,4 @@
-use Rattle.patterns.proofs.Patterns.{ends-so, ends-session}
+use Rattle.patterns.proofs.Patterns.{ends-so, ends-session, ends-whole}
 use Rattle.patterns.proofs.pattern.Pattern.ends.Needs as need
 use Rattle.patterns.specs.Patterns.{expr-of}
 use lib.Bits.{bitAnd}
@@ -11,4 +11,5 @@ returns c =
     record {
       ends = ends-so (expr-of self) (c .args .places .bits) _ _ meets (c .is-empty .ensures .value);
       sessions = ends-session (expr-of self) (c .args .places .bits) _ _ meets (c .is-empty .ensures .value);
+      whole = ends-whole (expr-of self) (c .args .places .bits) _ _ meets (c .is-empty .ensures .value);
     }
