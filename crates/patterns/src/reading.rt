@@ -111,27 +111,22 @@ fn body<A: Alphabet>(
             break 'lines Ok(());
         }
         let number = done + 2;
+        let malformed = Fault {
+            why: PatternRefusal::Line,
+            line: number,
+        };
         let Some(mut line) = cursor.line() else {
-            break 'lines Err(Fault {
-                why: PatternRefusal::Line,
-                line: number,
-            });
+            break 'lines Err(malformed);
         };
         let mut read = Entry::Start;
         while let Some(token) = line.field() {
             match read.with(token) {
                 Some(more) => read = more,
-                None => break 'lines Err(Fault {
-                    why: PatternRefusal::Line,
-                    line: number,
-                }),
+                None => break 'lines Err(malformed),
             }
         }
         let Entry::Whole(kind, code) = read else {
-            break 'lines Err(Fault {
-                why: PatternRefusal::Line,
-                line: number,
-            });
+            break 'lines Err(malformed);
         };
         if let Err(why) = add(alphabet, kind, code, draft) {
             break 'lines Err(at_line(why, number));
