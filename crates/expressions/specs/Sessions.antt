@@ -1,4 +1,5 @@
--- The words that an expression stands for. A word is a list of letters.
+-- The sessions of an expression: the words that it stands for. A word is a list of letters, each a kind of bus event; a session is
+-- a whole run of a procedure, or of a part of one.
 use mathlib.Core.Path.{_≡_}
 use mathlib.Core.Logic.{_⊎_}
 use mathlib.Core.List.{List, [], _∷_, _++_}

@@ -1,4 +1,4 @@
--- Laws of the lines of a written pattern. Assumes nothing.
+-- Laws of the lines of a written pattern.
 use mathlib.Core.Path.{_≡_, refl, sym, ap, _∙_}
 use mathlib.Core.Bool.{Bool, true, cond, _&&_}
 use mathlib.Core.Logic.{inl}

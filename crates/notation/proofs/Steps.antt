@@ -1,4 +1,4 @@
--- What one field more says of a first line and of a node's line. Assumes nothing.
+-- What one field more says of a first line and of a node's line.
 use mathlib.Core.Path.{_≡_, refl, sym, ap, subst, _∙_}
 use mathlib.Core.Bool.{Bool, true, false}
 use mathlib.Core.List.{List, [], _∷_, _++_}

@@ -1,4 +1,4 @@
--- The next field that is left of a first line. Assumes nothing.
+-- The next field that is left of a first line.
 use mathlib.Core.Path.{_≡_}
 use mathlib.Core.Bool.{Bool, true, false}
 use mathlib.Core.List.{List, _∷_}

@@ -1,4 +1,4 @@
--- The written form of patterns of bus events. Assumes nothing.
+-- The written form of patterns of bus events.
 use mathlib.Core.Path.{_≡_}
 use mathlib.Core.List.{List, [], _∷_, _++_}
 use Prim.Native.Nat.{ℕ, _<_, _^_}

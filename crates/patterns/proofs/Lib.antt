@@ -1,4 +1,5 @@
 mod Bodies
+pub mod Determined
 mod Drafts
 mod Grows
 mod Openings

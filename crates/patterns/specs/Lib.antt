@@ -1,3 +1,4 @@
+pub mod Determined
 pub mod Drafts
 pub mod Nodes
 pub mod Patterns

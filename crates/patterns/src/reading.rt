@@ -1,5 +1,6 @@
 // Reading a pattern from its text.
 ghost use Prim.Native.Nat.{ℕ, _^_, _<_, _≤_};
+ghost use Rattle.patterns.specs.Determined.{Only};
 ghost use Rattle.patterns.specs.Drafts.{Drafted};
 ghost use Rattle.patterns.specs.Reading.{Parses, Reads};
 ghost use Rattle.patterns.specs.Reads.{Opens, NodeFor, Adds, Draws, line-of};
@@ -189,7 +190,8 @@ impl Pattern {
         alphabet: &A,
         text: &[u8],
     ) -> Result<(), Fault>
-        ensures { λ r. ⌜ Reads (meaning (now (alphabet .entry))) (now (text .entry)) r (now (self .exit)) ⌝ }
+        ensures reads { λ r. ⌜ Reads (meaning (now (alphabet .entry))) (now (text .entry)) r (now (self .exit)) ⌝ }
+        ensures only { λ r. ⌜ Only (meaning (now (alphabet .entry))) (now (text .entry)) r ⌝ }
     {
         match parse(heap, alphabet, text) {
             Ok(pattern) => {

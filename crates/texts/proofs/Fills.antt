@@ -1,4 +1,4 @@
--- A number's digits, written from the last to the first. Assumes nothing.
+-- A number's digits, written from the last to the first.
 use mathlib.Core.Path.{_≡_, sym, ap, _∙_, subst}
 use mathlib.Core.List.{List, [], _∷_, _++_}
 use Prim.Native.Nat.{ℕ, _+_, _-_, _/_, _%_, _^_, _≤_, _<_}

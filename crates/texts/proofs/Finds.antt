@@ -1,4 +1,4 @@
--- The first of a byte in a text, from an index on. Assumes nothing.
+-- The first of a byte in a text, from an index on.
 use mathlib.Core.Path.{_≡_, sym, ap, _∙_}
 use mathlib.Core.List.{List, _∷_, _++_}
 use Prim.Native.Nat.{ℕ, _+_, _-_, _≤_, _<_}

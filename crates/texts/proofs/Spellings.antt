@@ -1,4 +1,4 @@
--- The spelling of a number, read from the left. Assumes nothing.
+-- The spelling of a number, read from the left.
 use mathlib.Core.Path.{_≡_, refl, sym, ap, subst, _∙_}
 use mathlib.Core.Logic.{⊎-elim}
 use mathlib.Core.List.{List, [], _∷_}

@@ -1,4 +1,4 @@
--- Laws of texts, pieces and tokens. Assumes nothing.
+-- Laws of texts, pieces and tokens.
 use mathlib.Core.Path.{_≡_, refl, sym, ap, subst, _∙_}
 use mathlib.Core.Bool.{true, false, cond}
 use mathlib.Core.Logic.{_⊎_, ⊎-elim, _↔_}

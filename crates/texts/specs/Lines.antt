@@ -1,4 +1,4 @@
--- The lines of a text and the fields of a line. Assumes nothing.
+-- The lines of a text and the fields of a line.
 use mathlib.Core.Path.{_≡_}
 use mathlib.Core.Bool.{cond}
 use mathlib.Core.List.{List, [], _∷_}

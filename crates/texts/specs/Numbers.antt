@@ -1,4 +1,4 @@
--- A number, written into a buffer. Assumes nothing.
+-- A number, written into a buffer.
 use mathlib.Core.Path.{_≡_}
 use mathlib.Core.List.{List, _++_}
 use Prim.Native.Nat.{ℕ, _<_, _≤_}

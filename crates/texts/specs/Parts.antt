@@ -1,4 +1,4 @@
--- A text of bytes and its parts. Assumes nothing.
+-- A text of bytes and its parts.
 use mathlib.Core.Path.{_≡_}
 use mathlib.Core.Bool.{cond}
 use mathlib.Core.List.{List, [], _∷_, _++_}

@@ -1,4 +1,4 @@
--- What a field says: a number or a word. Assumes nothing.
+-- What a field says: a number or a word.
 use mathlib.Core.Path.{_≡_}
 use mathlib.Core.List.{List}
 use Prim.Native.Nat.{ℕ, _<_, _≤_, _+_, _-_, _*_, _^_}
