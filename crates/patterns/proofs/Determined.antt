@@ -7,7 +7,7 @@ use Rattle.notation.specs.declared.kinds.Kind.{Kind}
 use Rattle.notation.specs.declared.kinds.Kind.the-variants as kind
 use Rattle.patterns.specs.Determined.{Only}
 use Rattle.patterns.specs.Nodes.{standing, takes, leaf-count, one-leaf}
-use Rattle.patterns.specs.Reading.{Heads, RefusesText, Accepts}
+use Rattle.patterns.specs.Reading.{FirstLine, RefusesText, Accepts}
 use Rattle.patterns.specs.Texts.{node-of, nodes, Suits, Keeps, Lawful, Begins, NoHeader, NoEntry}
 use Rattle.patterns.specs.declared.node.Node.{Node}
 use Rattle.patterns.specs.declared.pattern.Pattern.{Pattern}
@@ -213,7 +213,7 @@ module _ (m : Meaning) (sound : Sound m) (text : List ℕ) where
   -- a text of at most 4096 bytes
   abbrev First : Answer → Type 0
   First a =
-      (NoHeader text × Is (Some (refusal.Header, 1)) a) ⊎ ((n : ℕ) × (count : ℕ) × Heads text n count × Counted n count a)
+      (NoHeader text × Is (Some (refusal.Header, 1)) a) ⊎ ((n : ℕ) × (count : ℕ) × FirstLine text n count × Counted n count a)
 
   first-one : One First
   first-one a b (inl (none, e)) (inl (none′, f)) = e ∙ sym f
@@ -233,7 +233,7 @@ module _ (m : Meaning) (sound : Sound m) (text : List ℕ) where
   -- a place after lawful lines where reading stops gives an answer of the whole text
   inside : (count : ℕ) (ls : List (Kind × ℕ)) (rest : List ℕ) (a : Answer) → Begins m text count ls rest → Stop m count ls rest a → Outcome a
   inside count ls rest a begins stop =
-      let heads : Heads text (m .n) count = (lines ls ++ rest, omega (arith, sound .few), omega (arith, begins .few), begins .whole) in
+      let heads : FirstLine text (m .n) count = (lines ls ++ rest, omega (arith, sound .few), omega (arith, begins .few), begins .whole) in
       inr (begins .short, inr (m .n, count, heads, inr (refl, inr ((begins .some, begins .few), (ls, rest, begins, stop)))))
 
   -- a refusal of the text is one of its answers, and so is that it is read

@@ -20,8 +20,8 @@ use mathlib.Core.Logic.{_⊎_, _↔_}
 use mathlib.Core.Path.{_≡_}
 
 -- the first line of the text says n letters and `count` nodes
-abbrev pub Heads : List ℕ → ℕ → ℕ → Type 0
-Heads text n count = (rest : List ℕ) × (n < 2 ^ 64) × (count < 2 ^ 64) × (text ≡ header-bytes n count ++ (10 ∷ rest))
+abbrev pub FirstLine : List ℕ → ℕ → ℕ → Type 0
+FirstLine text n count = (rest : List ℕ) × (n < 2 ^ 64) × (count < 2 ^ 64) × (text ≡ header-bytes n count ++ (10 ∷ rest))
 
 -- after the lines ls, all lawful, comes another line with the kind k and the code c
 abbrev pub Comes : Meaning → List ℕ → List (Kind × ℕ) → Kind → ℕ → Type 0
@@ -33,9 +33,9 @@ abbrev pub RefusesText : Meaning → List ℕ → PatternRefusal → ℕ → Typ
 RefusesText m text TooLong line = (4096 < length text) × (line ≡ 0)
 RefusesText m text Header line = (length text ≤ 4096) × NoHeader text × (line ≡ 1)
 RefusesText m text Letters line =
-    (length text ≤ 4096) × ((n : ℕ) × (count : ℕ) × Heads text n count × (n ≡ m .n → ⊥)) × (line ≡ 1)
+    (length text ≤ 4096) × ((n : ℕ) × (count : ℕ) × FirstLine text n count × (n ≡ m .n → ⊥)) × (line ≡ 1)
 RefusesText m text Count line =
-    (length text ≤ 4096) × ((count : ℕ) × Heads text (m .n) count × ((1 ≤ count) × (count ≤ 127) → ⊥)) × (line ≡ 1)
+    (length text ≤ 4096) × ((count : ℕ) × FirstLine text (m .n) count × ((1 ≤ count) × (count ≤ 127) → ⊥)) × (line ≡ 1)
 RefusesText m text Line line =
     (count : ℕ) × (ls : List (Kind × ℕ)) × (rest : List ℕ) × Begins m text count ls rest
     × (((length ls < count) × NoEntry rest) ⊎ ((length ls ≡ count) × (rest ≡ [] → ⊥))) × (line ≡ length ls + 2)

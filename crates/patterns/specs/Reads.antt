@@ -4,7 +4,7 @@ use Rattle.alphabets.specs.Meaning.{Meaning}
 use Rattle.notation.specs.Notation.{header-bytes, entry-bytes, lines, Coded}
 use Rattle.notation.specs.declared.kinds.Kind.{Kind}
 use Rattle.patterns.specs.Drafts.{Drafted, Added}
-use Rattle.patterns.specs.Reading.{Heads}
+use Rattle.patterns.specs.Reading.{FirstLine}
 use Rattle.patterns.specs.Rules.{Refuses}
 use Rattle.patterns.specs.Texts.{node-of, nodes, Suits, Lawful, NoHeader, NoEntry}
 use Rattle.patterns.specs.declared.draft.Draft.{Draft}
@@ -26,8 +26,8 @@ use mathlib.Core.Path.{_≡_}
 abbrev pub WrongFirst : List ℕ → ℕ → PatternRefusal → Type 0
 WrongFirst text n TooLong = ⊥
 WrongFirst text n Header = NoHeader text
-WrongFirst text n Letters = (k : ℕ) × (count : ℕ) × Heads text k count × (k ≡ n → ⊥)
-WrongFirst text n Count = (count : ℕ) × Heads text n count × ((1 ≤ count) × (count ≤ 127) → ⊥)
+WrongFirst text n Letters = (k : ℕ) × (count : ℕ) × FirstLine text k count × (k ≡ n → ⊥)
+WrongFirst text n Count = (count : ℕ) × FirstLine text n count × ((1 ≤ count) × (count ≤ 127) → ⊥)
 WrongFirst text n Line = ⊥
 WrongFirst text n Code = ⊥
 WrongFirst text n Leaves = ⊥
