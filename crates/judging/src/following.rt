@@ -11,7 +11,7 @@ use std::alloc::Global;
 use texts::Cursor;
 
 // What the pattern says after each event of the trace.
-pub fn follow<'t, A: Alphabet>(
+pub(crate) fn follow<'t, A: Alphabet>(
     heap: Global,
     alphabet: &A,
     pattern: &Pattern,
