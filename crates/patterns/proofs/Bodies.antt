@@ -8,6 +8,7 @@ use Rattle.notation.specs.declared.kinds.Kind.{Kind}
 use Rattle.notation.specs.declared.kinds.Kind.the-variants as kind
 use Rattle.notation.specs.declared.entries.Entry.{Entry}
 use Rattle.notation.specs.declared.entries.Entry.the-variants.{Start, Named, Whole}
+use Rattle.patterns.proofs.Fronts.{no-line, line-fields, line-stands}
 use Rattle.patterns.specs.Drafts.{Within, Added}
 use Rattle.patterns.specs.Reads.{Lines, Drawn, WrongLine, WrongNext, line-of}
 use Rattle.patterns.specs.Rules.{Follows}
@@ -18,9 +19,8 @@ use Rattle.patterns.specs.declared.refusal.PatternRefusal.{PatternRefusal}
 use Rattle.patterns.specs.declared.refusal.PatternRefusal.the-variants as refusal
 use Rattle.std.specs.Of.Vec.{vec-items}
 use Rattle.std.proofs.shelf.Lists.{append-assoc, append-nil, length-push, take-at, take-append-le, getD-append-left, getD-push, map-push}
-use Rattle.texts.proofs.Texts.{parts-unique, parts-not-lacks}
 use Rattle.texts.specs.Lines.{Gave, rest, line-bytes, fields-left}
-use Rattle.texts.specs.Parts.{Lacks, Parts, split}
+use Rattle.texts.specs.Parts.{Lacks}
 use Rattle.texts.specs.declared.lines.Cursor.{Cursor}
 use Rattle.texts.specs.declared.lines.Line.{Line}
 use Rattle.std.specs.declared.option.Option.the-variants.{Some, None}
@@ -41,20 +41,17 @@ within-letters m sound kind.Alt c = tt
 within-letters m sound kind.Star c = tt
 
 pub no-line-no-entry : (text : List ℕ) → Lacks 10 text → NoEntry text
-no-line-no-entry text none k c r small e =
-    parts-not-lacks 10 text (entry-bytes k c) r (subst (λ t. Parts 10 t (entry-bytes k c) r) (sym e) (entry-parts k c r (omega arith))) none
+no-line-no-entry text none k c r small e = no-line text (entry-bytes k c) r none (entry-parts k c r (omega arith)) e
 
 pub no-fields-no-entry : (before after : Cursor) (l : Line) → Gave before l after
     → ((k : Kind) (c : ℕ) → c < 2 ^ 32 → fields-left l ≡ entry-fields k c → ⊥) → NoEntry (rest before)
 no-fields-no-entry before after l gave none k c r small e =
-    let parts = subst (λ t. Parts 10 t (entry-bytes k c) r) (sym e) (entry-parts k c r (omega arith)) in
-    let same = parts-unique 10 (rest before) (line-bytes l) (rest after) (entry-bytes k c) r (gave .parts) parts in
-    none k c small (gave .fresh ∙ ap (split 44) (same .0) ∙ entry-split k c (omega arith))
+    none k c small (line-fields before after l (entry-bytes k c) r gave (entry-parts k c r (omega arith)) e ∙ entry-split k c (omega arith))
 
 pub entry-stands : (before after : Cursor) (l : Line) (k : Kind) (c : ℕ) → Gave before l after → fields-left l ≡ entry-fields k c
     → rest before ≡ entry-bytes k c ++ (10 ∷ rest after)
 entry-stands before after l k c gave e =
-    gave .parts .whole ∙ ap (λ b. b ++ (10 ∷ rest after)) (entry-joined (line-bytes l) k c (sym (gave .fresh) ∙ e))
+    line-stands before after l (entry-bytes k c) gave (entry-joined (line-bytes l) k c (sym (gave .fresh) ∙ e))
 
 -- no node's line goes on as this one does
 pub no-way-on : (before after : Cursor) (l now : Line) (e : Entry) (w : List ℕ) (left : List (List ℕ)) → Gave before l after

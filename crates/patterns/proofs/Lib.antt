@@ -1,6 +1,7 @@
 mod Bodies
 pub mod Determined
 mod Drafts
+mod Fronts
 mod Grows
 mod Openings
 mod Parses
