@@ -1,4 +1,6 @@
 //! Alphabets of up to 16 letters, with the codes that stand for sets of letters and the names of the letters.
+#![tactic(auto)]
+
 ghost use Rattle.std.specs.Prelude.{◌≡◌};
 ghost use Rattle.alphabets.specs.Meaning.{Meaning, Sound, held_letters};
 

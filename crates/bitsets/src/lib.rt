@@ -1,4 +1,6 @@
 // Sets of numbers below 64, each set in one word.
+#![tactic(auto)]
+
 ghost use Rattle.std.specs.Prelude.{◌≡◌, ℕ, ◌^◌, ◌<◌, ◌≤◌, ◌⊎◌, ◌↔◌, Decides, bit_and, bit_or};
 ghost use Rattle.bitsets.specs.Sets.{Has, has};
 

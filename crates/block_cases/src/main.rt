@@ -1,4 +1,5 @@
 // Blocks of rows, exact and not, and searches at their limits: a printed line for each case.
+#![tactic(auto)]
 
 mod checks;
 mod dial;

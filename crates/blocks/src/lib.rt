@@ -1,5 +1,7 @@
 // Blocks of rows: every state that an automaton reaches, each in a row with the rows that come next,
 // found by a search or checked for exactness, once for every kind of state.
+#![tactic(auto)]
+
 pub mod automaton;
 mod exactness;
 mod finding;

@@ -1,4 +1,6 @@
 // Regular expressions, their sessions and their places: two laws, each the contract of a function.
+#![tactic(auto)]
+
 ghost use Rattle.expressions.specs.Laws.{DerivativeFollowsSessions, PlacesKnowSessions};
 
 /// Following the places letter by letter tells what may still come.

@@ -1,4 +1,6 @@
 // Judges the trace in trace.txt by the procedure in procedure.txt, and prints a line after each event.
+#![tactic(auto)]
+
 mod failure;
 
 use alphabets::Service;

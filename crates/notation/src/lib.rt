@@ -1,4 +1,6 @@
 // The written form of patterns of bus events: a first line `pattern,1,n,m` and then a line `kind,code` for each node.
+#![tactic(auto)]
+
 mod entries;
 mod headers;
 mod heads;

@@ -1,4 +1,5 @@
 // Pattern texts, good and bad: one printed line says what reading each of them answers.
+#![tactic(auto)]
 
 mod case;
 mod firsts;

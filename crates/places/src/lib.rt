@@ -1,4 +1,6 @@
 // The place sets of a pattern as an automaton, and their exact block from the pattern's text.
+#![tactic(auto)]
+
 mod block;
 pub mod refusal;
 pub mod sets;

@@ -1,5 +1,7 @@
 // Prints the exact block of the place sets of the pattern in pattern.txt, a line for each row: over
 // the service alphabet, or with an argument n over the numbered alphabet of n letters.
+#![tactic(auto)]
+
 mod failure;
 
 use alphabets::{Alphabet, Numbered, Service};

@@ -1,4 +1,6 @@
 // Texts of bytes: lines that end with a newline byte, fields between commas, decimal numbers.
+#![tactic(auto)]
+
 mod fields;
 mod find;
 mod lines;
