@@ -41,7 +41,7 @@ pub trait Alphabet {
 
 /// The set of the letters that a code holds; none, where the code is not valid.
 pub fn letters_of<A: Alphabet>(alphabet: &A, code: u32) -> SmallSet
-    ensures { result.bits ≡ held_letters (meaning alphabet.now) code }
+    ensures { result.bits ≡ held_letters (A.meaning alphabet.now) code }
 {
     let mut set = SmallSet::empty();
     for letter in 0..alphabet.letters() {

@@ -7,14 +7,16 @@ use Rattle.blocks.specs.Laws.{Faithful, Leads}
 use Rattle.blocks.specs.Moves.{Fair, Letters, Many, Moves, after, reached}
 use Rattle.blocks.specs.declared.row.Row.{Row}
 use Rattle.std.proofs.lemmas.Bool.{cases_order}
+use Rattle.std.proofs.lemmas.List.Elements.{All-head, All-tail}
 
 module _ {S : Type 0} (m : Moves S) (fair : Fair m) (rows : List (Row S)) (exact : Exact m rows) where
   -- letters lead from each row to some row
   Leads_on : (w : List ℕ) → Letters m w → (k : ℕ) → k < length rows → (j : ℕ) × Leads m rows k w j
   Leads_on [] l k h = (k, (h, refl))
   Leads_on (a ∷ w) l k h =
-      let (j, led) = Leads_on w l.1 (next m rows k a) (exact.steps k a h l.0).0 in
-      (j, (h, l.0, led))
+      let here : a < m.letters = All-head (λ b. b < m.letters) a w l in
+      let (j, led) = Leads_on w (All-tail (λ b. b < m.letters) a w l) (next m rows k a) (exact.steps k a h here).0 in
+      (j, (h, here, led))
 
   Leads_there : (w : List ℕ) (k j : ℕ) → Leads m rows k w j → j < length rows
   Leads_there [] k j led = subst (λ i. i < length rows) led.1 led.0

@@ -6,7 +6,7 @@ use Rattle.blocks.specs.Blocks.{Differ, origin, state}
 use Rattle.blocks.specs.Moves.{Fair, Letters, Many, Moves, after, reached}
 use Rattle.blocks.specs.Search.{Fresh}
 use Rattle.blocks.specs.declared.row.Row.{Row}
-use Rattle.std.proofs.lemmas.List.Elements.{All-push}
+use Rattle.std.proofs.lemmas.List.Elements.{All-nil, All-push}
 use Rattle.std.proofs.lemmas.List.{length_push}
 
 -- one more letter
@@ -31,7 +31,7 @@ pub reaching : {S : Type 0} (m : Moves S) → Fair m → (rows : List (Row S)) �
 reaching m fair rows starts earlier = strong (λ j. Comes m (state m rows j)) (length rows) step
   where
     step : (j : ℕ) → j < length rows → ((k : ℕ) → k < j → Comes m (state m rows k)) → Comes m (state m rows j)
-    step zero h before = ([], tt, starts)
+    step zero h before = ([], All-nil (λ b. b < m.letters), starts)
     step (suc j) h before =
         let (k, b, l, in', e) = earlier (suc j) (omega arith) h in
         comes_on m fair (state m rows k) (state m rows (suc j)) b in' e (before k l)
@@ -63,5 +63,5 @@ pub many_one : {S : Type 0} (m : Moves S) → Fair m → Many m 1
 many_one m fair = many_rows m fair (origin m ∷ []) (λ i j l h. absurd (omega arith)) start
   where
     start : (j : ℕ) → j < 1 → Comes m (state m (origin m ∷ []) j)
-    start zero h = ([], tt, fair.itself m.start)
+    start zero h = ([], All-nil (λ b. b < m.letters), fair.itself m.start)
     start (suc j) h = absurd (omega arith)

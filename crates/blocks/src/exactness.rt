@@ -12,8 +12,8 @@ use crate::row::{ROW_NUMBERS, Row};
 /// state after its letter, and every later row comes next after some row before it. Any rows may be
 /// handed in.
 pub fn is_exact<A: Automaton>(automaton: &A, rows: &[Row<A::State>]) -> bool
-    ensures exact { Decides result (Exact (moves automaton.now) rows.now) }
-    ensures laws { result ≡ true → Faithful (moves automaton.now) rows.now }
+    ensures exact { Decides result (Exact (A.moves automaton.now) rows.now) }
+    ensures laws { result ≡ true → Faithful (A.moves automaton.now) rows.now }
 {
     if !starts(automaton, rows) {
         return false;
@@ -29,7 +29,7 @@ pub fn is_exact<A: Automaton>(automaton: &A, rows: &[Row<A::State>]) -> bool
 
 // Whether row 0 is there and is the start.
 fn starts<A: Automaton>(automaton: &A, rows: &[Row<A::State>]) -> bool
-    ensures { Decides result ((0 < length rows.now) × (moves automaton.now).alike (state (moves automaton.now) rows.now 0) (moves automaton.now).start) }
+    ensures { Decides result ((0 < length rows.now) × (A.moves automaton.now).alike (state (A.moves automaton.now) rows.now 0) (A.moves automaton.now).start) }
 {
     let Some(first) = rows.first() else {
         return false;
@@ -39,7 +39,7 @@ fn starts<A: Automaton>(automaton: &A, rows: &[Row<A::State>]) -> bool
 
 // Whether no two rows have the same state.
 fn differ<A: Automaton>(automaton: &A, rows: &[Row<A::State>]) -> bool
-    ensures { Decides result (Differ (moves automaton.now) rows.now) }
+    ensures { Decides result (Differ (A.moves automaton.now) rows.now) }
 {
     for (k, row) in rows.iter().enumerate() {
         if find(automaton, &rows[..k], &row.state).is_some() {
@@ -51,7 +51,7 @@ fn differ<A: Automaton>(automaton: &A, rows: &[Row<A::State>]) -> bool
 
 // Whether every next row is there and has the state after its letter.
 fn all_step<A: Automaton>(automaton: &A, rows: &[Row<A::State>]) -> bool
-    ensures { Decides result ((i a : ℕ) → i < length rows.now → a < (moves automaton.now).letters → Steps (moves automaton.now) rows.now (slice_index_or rows.now i (origin (moves automaton.now))) a) }
+    ensures { Decides result ((i a : ℕ) → i < length rows.now → a < (A.moves automaton.now).letters → Steps (A.moves automaton.now) rows.now (slice_index_or rows.now i (origin (A.moves automaton.now))) a) }
 {
     for row in rows {
         if !steps(automaton, rows, row) {
@@ -63,7 +63,7 @@ fn all_step<A: Automaton>(automaton: &A, rows: &[Row<A::State>]) -> bool
 
 // Whether every next row of one row is there and has the state after its letter.
 fn steps<A: Automaton>(automaton: &A, rows: &[Row<A::State>], row: &Row<A::State>) -> bool
-    ensures { Decides result ((a : ℕ) → a < (moves automaton.now).letters → Steps (moves automaton.now) rows.now row.now a) }
+    ensures { Decides result ((a : ℕ) → a < (A.moves automaton.now).letters → Steps (A.moves automaton.now) rows.now row.now a) }
 {
     for letter in 0..automaton.letters() {
         if !steps_by(automaton, rows, row, letter) {
@@ -80,8 +80,8 @@ fn steps_by<A: Automaton>(
     row: &Row<A::State>,
     letter: u8,
 ) -> bool
-    requires { letter < (moves automaton.now).letters }
-    ensures { Decides result (Steps (moves automaton.now) rows.now row.now letter) }
+    requires { letter < (A.moves automaton.now).letters }
+    ensures { Decides result (Steps (A.moves automaton.now) rows.now row.now letter) }
 {
     let next = row.next[letter as usize] as usize;
     if next >= rows.len() {
@@ -93,7 +93,7 @@ fn steps_by<A: Automaton>(
 // Whether every later row comes next after some row before it: one pass, in which the rows that have
 // been named are marked.
 fn come_next<A: Automaton>(automaton: &A, rows: &[Row<A::State>]) -> bool
-    ensures { Decides result ((j : ℕ) → 0 < j → j < length rows.now → Named (moves automaton.now) rows.now j j) }
+    ensures { Decides result ((j : ℕ) → 0 < j → j < length rows.now → Named (A.moves automaton.now) rows.now j j) }
 {
     let mut named = [false; ROW_NUMBERS];
     named[0] = true;

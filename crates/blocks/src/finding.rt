@@ -10,7 +10,7 @@ pub(crate) fn find<A: Automaton>(
     rows: &[Row<A::State>],
     state: &A::State,
 ) -> Option<usize>
-    ensures { Finds (moves automaton.now) rows.now state.now result }
+    ensures { Finds (A.moves automaton.now) rows.now state.now result }
 {
     for (k, row) in rows.iter().enumerate() {
         if automaton.same(&row.state, state) {

@@ -15,7 +15,7 @@ pub fn search<A: Automaton>(
     limit: usize,
     rows: &mut Vec<Row<A::State>>,
 ) -> Result<(), SearchRefusal>
-    ensures rows { Searched (moves automaton.now) (allowed limit) (vec_capacity rows.old) result rows.new.items }
+    ensures rows { Searched (A.moves automaton.now) (allowed limit) (vec_capacity rows.old) result rows.new.items }
     ensures room { vec_capacity rows.old ≤ vec_capacity rows.new }
 {
     rows.clear();
@@ -34,7 +34,7 @@ fn fill<A: Automaton>(
 ) -> Result<(), SearchRefusal>
     requires empty { rows.old.items ≡ [] }
     requires most { most ≤ 256 }
-    ensures rows { Filled (moves automaton.now) most (vec_capacity rows.old) result rows.new.items }
+    ensures rows { Filled (A.moves automaton.now) most (vec_capacity rows.old) result rows.new.items }
     ensures room { vec_capacity rows.old ≤ vec_capacity rows.new }
 {
     place(automaton, most, rows, automaton.start())?;
@@ -55,8 +55,8 @@ fn expand<A: Automaton>(
 ) -> Result<(), SearchRefusal>
     requires there { at < vec_len rows.old }
     requires most { most ≤ 256 }
-    requires grown { Grown (moves automaton.now) most at 0 rows.old.items }
-    ensures rows { Expanded (moves automaton.now) most at (vec_len rows.old) (vec_capacity rows.old) result rows.new.items }
+    requires grown { Grown (A.moves automaton.now) most at 0 rows.old.items }
+    ensures rows { Expanded (A.moves automaton.now) most at (vec_len rows.old) (vec_capacity rows.old) result rows.new.items }
     ensures room { vec_capacity rows.old ≤ vec_capacity rows.new }
 {
     for letter in 0..automaton.letters() {
@@ -76,7 +76,7 @@ fn place<A: Automaton>(
 ) -> Result<u8, SearchRefusal>
     requires few { vec_len rows.old ≤ most }
     requires most { most ≤ 256 }
-    ensures rows { Placed (moves automaton.now) most (vec_capacity rows.old) rows.old.items state result rows.new.items }
+    ensures rows { Placed (A.moves automaton.now) most (vec_capacity rows.old) rows.old.items state result rows.new.items }
     ensures room { vec_capacity rows.old ≤ vec_capacity rows.new }
 {
     if let Some(k) = find(automaton, rows, &state) {

@@ -16,7 +16,7 @@ pub(crate) fn follow<'t, A: Alphabet>(
     pattern: &Pattern,
     trace: &'t [u8],
 ) -> Result<Vec<Verdict<'t>>, AllocError>
-    ensures { IfOk result (λ vs. Followed (expr_of pattern.now) (events (meaning alphabet.now) trace.now) vs.items) }
+    ensures { IfOk result (λ vs. Followed (expr_of pattern.now) (events (A.meaning alphabet.now) trace.now) vs.items) }
 {
     let mut verdicts = Vec::new(heap);
     let mut places = Pattern::start();

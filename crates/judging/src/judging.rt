@@ -15,7 +15,7 @@ pub fn judge<'t, A: Alphabet>(
     procedure: &[u8],
     trace: &'t [u8],
 ) -> Result<Vec<Verdict<'t>>, Fault>
-    ensures { Judges (meaning alphabet.now) procedure.now trace.now result }
+    ensures { Judges (A.meaning alphabet.now) procedure.now trace.now result }
 {
     let mut pattern = Pattern::blank(heap);
     pattern.read(heap, alphabet, procedure)?;

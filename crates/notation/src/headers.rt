@@ -39,7 +39,7 @@ fn is_name(token: Token<'_>) -> bool
     ensures { IsName token.entry result }
 {
     match token {
-        Token::Word(word) => word == b"pattern",
+        Token::Word(word) => word == b"pattern".as_slice(),
         Token::Number(_) => false,
     }
 }

@@ -16,22 +16,22 @@ impl Kind {
     pub fn named(word: &[u8]) -> Option<Kind>
         ensures { Names word.now result }
     {
-        if word == b"never" {
+        if word == b"never".as_slice() {
             return Some(Kind::Never);
         }
-        if word == b"empty" {
+        if word == b"empty".as_slice() {
             return Some(Kind::Empty);
         }
-        if word == b"leaf" {
+        if word == b"leaf".as_slice() {
             return Some(Kind::Leaf);
         }
-        if word == b"seq" {
+        if word == b"seq".as_slice() {
             return Some(Kind::Seq);
         }
-        if word == b"alt" {
+        if word == b"alt".as_slice() {
             return Some(Kind::Alt);
         }
-        if word == b"star" {
+        if word == b"star".as_slice() {
             return Some(Kind::Star);
         }
         None

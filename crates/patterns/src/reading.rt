@@ -43,7 +43,7 @@ fn opening(cursor: &mut Cursor<'_>, letters: u8) -> Result<usize, PatternRefusal
 
 // The node of a line, where its code suits its kind.
 fn node_for<A: Alphabet>(alphabet: &A, kind: Kind, code: u32) -> Option<Node>
-    ensures { NodeFor (meaning alphabet.now) kind code result }
+    ensures { NodeFor (A.meaning alphabet.now) kind code result }
 {
     let node = match kind {
         Kind::Never => Node::Never,
@@ -58,7 +58,7 @@ fn node_for<A: Alphabet>(alphabet: &A, kind: Kind, code: u32) -> Option<Node>
 
 // The leaf with a code's letters, where the code is valid.
 fn leaf_for<A: Alphabet>(alphabet: &A, code: u32) -> Option<Node>
-    ensures { NodeFor (meaning alphabet.now) Leaf code result }
+    ensures { NodeFor (A.meaning alphabet.now) Leaf code result }
 {
     if alphabet.valid(code) {
         Some(Node::Leaf(letters_of(alphabet, code)))
@@ -75,9 +75,9 @@ fn add<A: Alphabet>(
     draft: &mut Draft,
 ) -> Result<(), PatternRefusal>
     requires drafted { Drafted draft.old }
-    requires letters { vec_len draft.old.holders ≡ (meaning alphabet.now).n }
+    requires letters { vec_len draft.old.holders ≡ (A.meaning alphabet.now).n }
     ensures code { code < 2 ^ 32 }
-    ensures adds { Adds (meaning alphabet.now) kind code draft.old result draft.new }
+    ensures adds { Adds (A.meaning alphabet.now) kind code draft.old result draft.new }
 {
     let Some(node) = node_for(alphabet, kind, code) else {
         return Err(PatternRefusal::Code);
@@ -93,10 +93,10 @@ fn body<A: Alphabet>(
     draft: &mut Draft,
 ) -> Result<(), Fault>
     requires drafted { Drafted draft.old }
-    requires letters { vec_len draft.old.holders ≡ (meaning alphabet.now).n }
+    requires letters { vec_len draft.old.holders ≡ (A.meaning alphabet.now).n }
     requires none { draft.old.nodes.items ≡ [] }
     requires few { count ≤ 127 }
-    ensures { Draws (meaning alphabet.now) (rest cursor.old) count result (rest cursor.new) draft.new }
+    ensures { Draws (A.meaning alphabet.now) (rest cursor.old) count result (rest cursor.new) draft.new }
 {
     let mut done = 0;
     'lines: loop {
@@ -141,7 +141,7 @@ fn at_line(why: PatternRefusal, line: usize) -> Fault
 
 // A pattern from its text.
 fn parse<A: Alphabet>(heap: Global, alphabet: &A, text: &[u8]) -> Result<Pattern, Fault>
-    ensures { Parses (meaning alphabet.now) text.now result }
+    ensures { Parses (A.meaning alphabet.now) text.now result }
 {
     if text.len() > MOST_BYTES {
         return Err(Fault {
@@ -182,8 +182,8 @@ impl Pattern {
         alphabet: &A,
         text: &[u8],
     ) -> Result<(), Fault>
-        ensures reads { Reads (meaning alphabet.now) text.now result self.new }
-        ensures only { Only (meaning alphabet.now) text.now result }
+        ensures reads { Reads (A.meaning alphabet.now) text.now result self.new }
+        ensures only { Only (A.meaning alphabet.now) text.now result }
     {
         match parse(heap, alphabet, text) {
             Ok(pattern) => {

@@ -20,7 +20,7 @@ pub fn rows_of<A: Alphabet>(
     text: &[u8],
     limit: usize,
 ) -> Result<Vec<Row<SmallSet>>, RowsRefusal>
-    ensures { Tables (meaning alphabet.now) text.now (allowed limit) result }
+    ensures { Tables (A.meaning alphabet.now) text.now (allowed limit) result }
 {
     let mut pattern = Pattern::blank(heap);
     pattern.read(heap, alphabet, text)?;

@@ -1,5 +1,6 @@
 -- Laws of texts, pieces and tokens.
-use Rattle.std.proofs.Common.{◌≡◌, ℕ, zero, suc, ◌+◌, ◌^◌, ◌<◌, true, false, cond, eqb, ◌⊎◌, ◌↔◌, List, [], ◌∷◌, ◌++◌, length, get_or, decimal, All, sym, refl, ap, ◌∙◌, subst, ⊎_elim, arith}
+use Rattle.std.proofs.Common.{◌≡◌, ℕ, zero, suc, ◌+◌, ◌^◌, ◌<◌, true, false, cond, eqb, ◌⊎◌, ◌↔◌, List, [], ◌∷◌, ◌++◌, length, get_or, decimal, sym, refl, ap, ◌∙◌, subst, ⊎_elim, arith}
+use Rattle.std.specs.List.{AllByRecursion}
 use Rattle.std.specs.Int.{IsInRange}
 use Rattle.std.proofs.lemmas.Bool.{cases_Bool, eqb-true, eqb-false, eq-eqb, ne_eqb, cond-true, cond-false}
 use Rattle.std.proofs.lemmas.List.{length-append}
@@ -99,29 +100,29 @@ joined-split c (x ∷ xs) =
     (cases_Bool (eqb x c))
 
 -- pieces that lack c, joined, are split at their seams
-pub split-joined : (c : ℕ) (ps : List (List ℕ)) → 0 < length ps → All (Lacks c) ps → split c (joined c ps) ≡ ps
+pub split-joined : (c : ℕ) (ps : List (List ℕ)) → 0 < length ps → AllByRecursion (Lacks c) ps → split c (joined c ps) ≡ ps
 split-joined c [] h all = absurd (omega arith)
 split-joined c (p ∷ []) h all = split-Lacks c p all.0
 split-joined c (p ∷ q ∷ ps) h all =
     split_here c p (joined c (q ∷ ps)) all.0 ∙ ap (λ l. p ∷ l) (split-joined c (q ∷ ps) (omega arith) all.1)
 
-onto-Lacks : (c x : ℕ) (ps : List (List ℕ)) → (x ≡ c → ⊥) → All (Lacks c) ps → All (Lacks c) (onto x ps)
+onto-Lacks : (c x : ℕ) (ps : List (List ℕ)) → (x ≡ c → ⊥) → AllByRecursion (Lacks c) ps → AllByRecursion (Lacks c) (onto x ps)
 onto-Lacks c x [] other all = (Lacks-cons c x [] other (Lacks-nil c), tt)
 onto-Lacks c x (p ∷ ps) other all = (Lacks-cons c x p other all.0, all.1)
 
 -- no piece has a c
-pub split_all_lack : (c : ℕ) (xs : List ℕ) → All (Lacks c) (split c xs)
+pub split_all_lack : (c : ℕ) (xs : List ℕ) → AllByRecursion (Lacks c) (split c xs)
 split_all_lack c [] = (Lacks-nil c, tt)
 split_all_lack c (x ∷ xs) =
     ⊎_elim
-    (λ t. subst (All (Lacks c)) (sym (cond-true (eqb x c) ([] ∷ split c xs) (onto x (split c xs)) t)) (Lacks-nil c, split_all_lack c xs))
-    (λ f. subst (All (Lacks c)) (sym (cond-false (eqb x c) ([] ∷ split c xs) (onto x (split c xs)) f)) (onto-Lacks c x (split c xs) (eqb-false x c f) (split_all_lack c xs)))
+    (λ t. subst (AllByRecursion (Lacks c)) (sym (cond-true (eqb x c) ([] ∷ split c xs) (onto x (split c xs)) t)) (Lacks-nil c, split_all_lack c xs))
+    (λ f. subst (AllByRecursion (Lacks c)) (sym (cond-false (eqb x c) ([] ∷ split c xs) (onto x (split c xs)) f)) (onto-Lacks c x (split c xs) (eqb-false x c f) (split_all_lack c xs)))
     (cases_Bool (eqb x c))
 
 -- a text has just these pieces where it is they, joined, and no piece has a c
-pub split_unique : (c : ℕ) (xs : List ℕ) (ps : List (List ℕ)) → 0 < length ps → (split c xs ≡ ps) ↔ ((xs ≡ joined c ps) × All (Lacks c) ps)
+pub split_unique : (c : ℕ) (xs : List ℕ) (ps : List (List ℕ)) → 0 < length ps → (split c xs ≡ ps) ↔ ((xs ≡ joined c ps) × AllByRecursion (Lacks c) ps)
 split_unique c xs ps some = (
-  λ e. (sym (joined-split c xs) ∙ ap (joined c) e, subst (All (Lacks c)) e (split_all_lack c xs)),
+  λ e. (sym (joined-split c xs) ∙ ap (joined c) e, subst (AllByRecursion (Lacks c)) e (split_all_lack c xs)),
   λ h. ap (split c) h.0 ∙ split-joined c ps some h.1,
 )
 

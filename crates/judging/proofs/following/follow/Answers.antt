@@ -4,14 +4,14 @@ use Rattle.std.proofs.Common.{[], vec_items, refl, arith}
 use Rattle.texts.proofs.Texts.{gave_shorter}
 use Rattle.texts.specs.Lines.{rest, line_bytes}
 
-pub loop-line-smaller-in-default-letter : goal.loop-line-smaller-in-default-letter
-loop-line-smaller-in-default-letter g c = omega (arith, gave_shorter c.in-Some.ensures.line)
+pub loop-line-smaller-in_default-letter : goal.loop-line-smaller-in_default-letter
+loop-line-smaller-in_default-letter g c = omega (arith, gave_shorter c.in-Some.ensures.line)
 
 -- after a line that is no name
-pub loop-line-preserved-in-default-letter : goal.loop-line-preserved-in-default-letter
-loop-line-preserved-in-default-letter g c =
+pub loop-line-preserved-in_default-letter : goal.loop-line-preserved-in_default-letter
+loop-line-preserved-in_default-letter g c =
     so_far_pass c.loop-line.invariant (line_bytes c.in-Some.line) (rest c.line.new.self) c.bytes-name.result.now
-    c.in-Some.ensures.line.parts c.bytes-name.ensures c.in-default-letter.ensures
+    c.in-Some.ensures.line.parts c.bytes-name.ensures c.in_default-letter.ensures
 
 pub loop-line-smaller : goal.loop-line-smaller
 loop-line-smaller g c = omega (arith, gave_shorter c.in-Some.ensures.line)
@@ -22,7 +22,7 @@ loop-line-preserved g c =
     so_far_more c.loop-line.invariant (line_bytes c.in-Some.line) (rest c.line.new.self) c.in-Some-letter.letter
     (record { name = c.bytes-name.result; places = c.take-places.result; session = c.ends-session.result })
     (vec_items c.push.new.self) c.in-Some.ensures.line.parts c.bytes-name.ensures c.in-Some-letter.ensures
-    c.take-places.ensures (λ w led. c.ends-session.ensures.sessions [] w 1 refl led) c.in-ok-push.ensures.items
+    c.take-places.ensures (λ w led. c.ends-session.ensures.sessions [] w 1 refl led) c.in_ok-push.ensures.items
 
 pub returns : goal.returns
-returns g c = so_far_all c.loop-line.invariant c.in-default.ensures.line.0
+returns g c = so_far_all c.loop-line.invariant c.in_default.ensures.line.0

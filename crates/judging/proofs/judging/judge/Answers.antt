@@ -5,4 +5,4 @@ use Rattle.std.proofs.Common.{vec_items}
 pub returns : goal.returns
 returns g c =
     judged_from (g.A.Alphabet.meaning c.args.alphabet.now) c.args.procedure.now c.args.trace.now c.read.new.self
-    c.in-ok-read.ensures.reads (vec_items c.in-ok-verdicts.verdicts) c.in-ok-verdicts.ensures
+    c.in_ok-read.ensures.reads (vec_items c.in_ok-verdicts.verdicts) c.in_ok-verdicts.ensures

@@ -24,8 +24,8 @@ lines-preserved g c =
     let small : code < 2 ^ 32 = c.add.ensures.code in
     let stands =
     whole_stands c.lines.cursor c.line.new.self c.in-Some.line c.loop-token.line c.loop-token.read k code c.in-Some.ensures.line
-    c.loop-token.invariant c.in-default-field.ensures.field.0 c.in-Whole.is in
-    let adds = c.in-default-add.ensures.adds in
+    c.loop-token.invariant c.in_default-field.ensures.field.0 c.in-Whole.is in
+    let adds = c.in_default-add.ensures.adds in
     let keeps = keeps_added m ls c.lines.draft c.add.new.draft k code inv.2 adds.0 adds.1 in (
       ls ++ ((k, code) ∷ []),
       lines_more m (rest c.args.cursor.now) ls (rest c.lines.cursor) (rest c.line.new.self) k code small inv.1 stands keeps,
@@ -34,10 +34,10 @@ lines-preserved g c =
       omega (arith, c.if-done-count.false, inv.4),
     )
 
-pub returns-in-default : goal.returns-in-default
-returns-in-default g c =
+pub returns-in_default : goal.returns-in_default
+returns-in_default g c =
     let inv = c.lines.invariant in
-    wrong_none _ _ _ _ inv.0 _ inv.1 inv.3 c.if-done-count.false inv.4 (no_line_no_entry (rest c.lines.cursor) c.in-default.ensures.line.0)
+    wrong_none _ _ _ _ inv.0 _ inv.1 inv.3 c.if-done-count.false inv.4 (no_line_no_entry (rest c.lines.cursor) c.in_default.ensures.line.0)
 
 pub returns-in-None : goal.returns-in-None
 returns-in-None g c =
@@ -47,12 +47,12 @@ returns-in-None g c =
     (no_way_on c.lines.cursor c.line.new.self c.in-Some.line c.loop-token.line c.loop-token.read took.word (fields_left c.field.new.self)
     c.in-Some.ensures.line c.loop-token.invariant took.split_off (c.in-None.ensures took.word took.spelt))
 
-pub returns-in-default-read : goal.returns-in-default-read
-returns-in-default-read g c =
+pub returns-in_default-read : goal.returns-in_default-read
+returns-in_default-read g c =
     let inv = c.lines.invariant in
     wrong_none _ _ _ _ inv.0 _ inv.1 inv.3 c.if-done-count.false inv.4
     (ended_early c.lines.cursor c.line.new.self c.in-Some.line c.loop-token.line c.loop-token.read
-    c.in-Some.ensures.line c.loop-token.invariant c.in-default-field.ensures.field.0 c.in-default-read.not-Whole)
+    c.in-Some.ensures.line c.loop-token.invariant c.in_default-field.ensures.field.0 c.in_default-read.not-Whole)
 
 pub returns-in-Err : goal.returns-in-Err
 returns-in-Err g c =
@@ -60,5 +60,5 @@ returns-in-Err g c =
     let small : c.in-Whole.code < 2 ^ 32 = c.add.ensures.code in
     wrong_line _ _ _ _ inv.0 _ inv.1 inv.3 c.if-done-count.false inv.4 c.lines.draft c.in-Whole.kind c.in-Whole.code (rest c.line.new.self) c.in-Err.why inv.2 small
     (whole_stands c.lines.cursor c.line.new.self c.in-Some.line c.loop-token.line c.loop-token.read c.in-Whole.kind c.in-Whole.code c.in-Some.ensures.line
-    c.loop-token.invariant c.in-default-field.ensures.field.0 c.in-Whole.is)
-    c.in-Err.ensures.adds c.at-line.result c.at-line.ensures.why c.at-line.ensures.line
+    c.loop-token.invariant c.in_default-field.ensures.field.0 c.in-Whole.is)
+    c.in-Err.ensures.adds c.at_line.result c.at_line.ensures.why c.at_line.ensures.line

@@ -4,12 +4,12 @@ use Rattle.patterns.proofs.Openings.{no_line_no_header, no_fields_no_header, hea
 use Rattle.patterns.proofs.reading.opening.Goals as goal
 use Rattle.texts.specs.Lines.{rest}
 
-pub returns-in-default : goal.returns-in-default
-returns-in-default c = no_line_no_header (rest c.args.cursor.now) c.in-default.ensures.line.0
+pub returns-in_default : goal.returns-in_default
+returns-in_default c = no_line_no_header (rest c.args.cursor.now) c.in_default.ensures.line.0
 
-pub returns-in-default-header : goal.returns-in-default-header
-returns-in-default-header c =
-    no_fields_no_header c.args.cursor.now c.line.new.self c.in-Some.line c.in-Some.ensures.line c.in-default-header.ensures
+pub returns-in_default-header : goal.returns-in_default-header
+returns-in_default-header c =
+    no_fields_no_header c.args.cursor.now c.line.new.self c.in-Some.line c.in-Some.ensures.line c.in_default-header.ensures
 
 pub returns-then-first-letters : goal.returns-then-first-letters
 returns-then-first-letters c =

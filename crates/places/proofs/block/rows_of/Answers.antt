@@ -7,15 +7,15 @@ use Rattle.std.proofs.Common.{◌≡◌, vec_items, vec_capacity}
 
 pub returns : goal.returns
 returns g c =
-    let found = c.in-ok-search.ensures.rows in
+    let found = c.in_ok-search.ensures.rows in
     tabled_so (g.A.Alphabet.meaning c.args.alphabet.now) c.args.text.now (allowed c.args.limit) c.read.new.self
-    c.in-ok-read.ensures.reads (vec_items c.search.new.rows) found.0 found.1
+    c.in_ok-read.ensures.reads (vec_items c.search.new.rows) found.0 found.1
 
-pub returns-in-err-search : goal.returns-in-err-search
-returns-in-err-search g c =
-    let why = c.in-err-search.field-0.0 in
-    let exit = err_from_is_err_and {Q = λ r. r ≡ Rows why} c.from-residual-in-err-search.result c.from-residual-in-err-search.ensures.1 in
+pub returns-in_err-search : goal.returns-in_err-search
+returns-in_err-search g c =
+    let why = c.in_err-search.field-0.0 in
+    let exit = err_from_is_err_and {Q = λ r. r ≡ Rows why} c.from_residual-in_err-search.result c.from_residual-in_err-search.ensures.1 in
     rw (exit.1, exit.2)
     (declined_so (g.A.Alphabet.meaning c.args.alphabet.now) c.args.text.now (allowed c.args.limit) c.read.new.self
-    c.in-ok-read.ensures.reads why (vec_capacity c.new-rows.result)
-    (vec_items c.search.new.rows) c.in-err-search.ensures.rows)
+    c.in_ok-read.ensures.reads why (vec_capacity c.new-rows.result)
+    (vec_items c.search.new.rows) c.in_err-search.ensures.rows)

@@ -3,8 +3,8 @@ use Rattle.std.proofs.lemmas.Fmt.{length-decimal-le, decimal_nonempty}
 use Rattle.texts.proofs.Fills.{length_more, length_one}
 use Rattle.texts.proofs.numbers.digits.Goals as goal
 
-pub overflow-add-len : goal.overflow-add-len
-overflow-add-len c =
+pub overflow_add-len : goal.overflow_add-len
+overflow_add-len c =
     let short = length-decimal-le 20 c.args.number (omega arith) (omega arith) (omega arith) in
     omega (arith, decimal_nonempty c.loop-n.n c.loop-n.invariant.0)
 

@@ -3,8 +3,8 @@ use Rattle.std.proofs.lemmas.Fmt.{decimal_nonempty}
 use Rattle.texts.proofs.Fills.{length_more, length_one, fill_more, fill_last}
 use Rattle.texts.proofs.numbers.fill.Goals as goal
 
-pub overflow-sub-at : goal.overflow-sub-at
-overflow-sub-at c = omega (arith, decimal_nonempty c.loop-n.n c.loop-n.invariant.0)
+pub overflow_sub-at : goal.overflow_sub-at
+overflow_sub-at c = omega (arith, decimal_nonempty c.loop-n.n c.loop-n.invariant.0)
 
 pub bounds-buffer-at : goal.bounds-buffer-at
 bounds-buffer-at c = omega (arith, decimal_nonempty c.loop-n.n c.loop-n.invariant.0)

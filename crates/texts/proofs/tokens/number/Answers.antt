@@ -4,8 +4,8 @@ use Rattle.std.proofs.lemmas.Bool.{both_ways}
 use Rattle.texts.proofs.Spellings.{read_on, read_on_more, no_led, no_more, reads_all}
 use Rattle.texts.proofs.tokens.number.Goals as goal
 
-pub returns-then-not-well-led : goal.returns-then-not-well-led
-returns-then-not-well-led c = no_led c.args.field.now (λ led. both_ways _ c.if-not-well-led.true (c.well-led.ensures.1 led))
+pub returns-then-not-well_led : goal.returns-then-not-well_led
+returns-then-not-well_led c = no_led c.args.field.now (λ led. both_ways _ c.if-not-well_led.true (c.well_led.ensures.1 led))
 
 pub returns-in-None : goal.returns-in-None
 returns-in-None c =
@@ -24,4 +24,4 @@ returns c =
     let w = c.args.field.now in
     let v = c.loop-b.value in
     let end : read_on v (drop c.loop-b.b-index w) ≡ v = at_drop_all (read_on v) w c.loop-b.b-index c.loop-b-test.false in
-    reads_all w v (λ k h. c.loop-b.invariant.0 k (omega arith)) (c.well-led.ensures.0 c.if-not-well-led.false) (sym c.loop-b.invariant.1 ∙ end) c.loop-b.invariant.2
+    reads_all w v (λ k h. c.loop-b.invariant.0 k (omega arith)) (c.well_led.ensures.0 c.if-not-well_led.false) (sym c.loop-b.invariant.1 ∙ end) c.loop-b.invariant.2

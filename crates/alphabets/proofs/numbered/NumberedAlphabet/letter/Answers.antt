@@ -4,10 +4,10 @@ use Rattle.alphabets.proofs.Spellings.{spelling_found, spelling_missed}
 use Rattle.alphabets.proofs.numbered.NumberedAlphabet.letter.Goals as goal
 
 -- a word spells no number
-pub returns-in-default : goal.returns-in-default
-returns-in-default c =
+pub returns-in_default : goal.returns-in_default
+returns-in_default c =
     let few = c.args.self.now.few in
-    sym (spelling_missed c.args.name.now c.args.self.now.n (λ k h. c.in-default.ensures.1 k (omega arith)))
+    sym (spelling_missed c.args.name.now c.args.self.now.n (λ k h. c.in_default.ensures.1 k (omega arith)))
 
 pub returns-then-k-from : goal.returns-then-k-from
 returns-then-k-from c =

@@ -9,12 +9,12 @@ use Rattle.alphabets.proofs.service.ServiceAlphabet.letter.Goals as goal
 pub returns-then-eq : goal.returns-then-eq
 returns-then-eq c =
     let e = (slice_eq-Decides Decides-eqb _ _ _ c.eq.ensures).0 c.if-eq.true in
-    sym (index_at c.args.name.now service_names c.loop-k.k (omega (arith, length_service_names)) (sym c.service-name.ensures ∙ e) c.loop-k.invariant)
+    sym (index_at c.args.name.now service_names c.loop-k.k (omega (arith, length_service_names)) (sym c.service_name.ensures ∙ e) c.loop-k.invariant)
 
 pub loop-k-preserved : goal.loop-k-preserved
 loop-k-preserved c =
     let d = slice_eq-Decides Decides-eqb _ _ _ c.eq.ensures in
-    below_more _ _ c.loop-k.invariant (λ e. not_from_Decides _ d c.if-eq.false (c.service-name.ensures ∙ e))
+    below_more _ _ c.loop-k.invariant (λ e. not_from_Decides _ d c.if-eq.false (c.service_name.ensures ∙ e))
 
 pub returns : goal.returns
 returns c =

@@ -9,7 +9,7 @@ pub returns : goal.returns
 returns c =
     let d = c.args.self.now in
     let place : c.only-here.result.bits ≡ 2 ^ vec_len d.followers = search rules in
-    leaf_grows _ _ c.requires.drafted refl c.args.letters _ _ (search rules) refl c.empty.ensures c.in-ok-push.ensures.items (search rules) c.unite-at.ensures.len
+    leaf_grows _ _ c.requires.drafted refl c.args.letters _ _ (search rules) refl c.empty.ensures c.in_ok-push.ensures.items (search rules) c.unite_at.ensures.len
     c.requires.within
-    (λ a h. c.unite-at.ensures.unites a h ∙ ap (λ m. bit_or (at (vec_items d.holders) a) (cond (has c.args.letters.bits a) m 0)) place)
+    (λ a h. c.unite_at.ensures.unites a h ∙ ap (λ m. bit_or (at (vec_items d.holders) a) (cond (has c.args.letters.bits a) m 0)) place)
     place place refl

@@ -9,7 +9,7 @@ returns c =
     let self = c.args.self.now in
     let meets = c.common.ensures.value ∙ ap (bit_and c.args.places.bits) self.ends in
     record {
-      ends = ends_so (expr_of self) c.args.places.bits _ _ meets c.is-empty.ensures.value;
-      sessions = ends_Session (expr_of self) c.args.places.bits _ _ meets c.is-empty.ensures.value;
-      whole = ends_whole (expr_of self) c.args.places.bits _ _ meets c.is-empty.ensures.value;
+      ends = ends_so (expr_of self) c.args.places.bits _ _ meets c.is_empty.ensures.value;
+      sessions = ends_Session (expr_of self) c.args.places.bits _ _ meets c.is_empty.ensures.value;
+      whole = ends_whole (expr_of self) c.args.places.bits _ _ meets c.is_empty.ensures.value;
     }

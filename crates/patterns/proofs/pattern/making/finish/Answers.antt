@@ -9,8 +9,8 @@ returns-then-len-ne1 c =
     let d = c.args.draft in
     (refl, λ one. omega (arith, ap length c.requires.drafted.parts, length-laid (standing (vec_items d.nodes)), d.parts.ok.0))
 
-pub invariant-of-result : goal.invariant-of-result
-invariant-of-result c =
+pub invariant_of-result : goal.invariant_of-result
+invariant_of-result c =
     let d = c.args.draft in
     let whole = c.index-whole.result.now in
     let one : length (vec_items d.parts) ≡ 1 = search rules in
@@ -25,7 +25,7 @@ invariant-of-result c =
             (
               holds_so d c.requires.drafted whole one c.index-whole.ensures,
               (
-                ends_are d c.requires.drafted whole one c.index-whole.ensures c.union-finals.result c.only-if.result (c.only-if.ensures ∙ ap (λ b. cond whole.nullable b 0) is_one) c.union-finals.ensures.value,
+                ends_are d c.requires.drafted whole one c.index-whole.ensures c.union-finals.result c.only_if.result (c.only_if.ensures ∙ ap (λ b. cond whole.nullable b 0) is_one) c.union-finals.ensures.value,
                 tt,
               ),
             ),
