@@ -14,25 +14,15 @@ invariant_of-result c =
     let d = c.args.draft in
     let whole = c.index-whole.result.now in
     let one : length (vec_items d.parts) ≡ 1 = search rules in
-    let is_one : c.only.result.bits ≡ 1 = search rules in (
-      omega (arith, c.requires.span, c.requires.drafted.tabled.letters),
-      (
-        room_so d c.requires.drafted whole one c.index-whole.ensures,
-        (
-          c.requires.span,
-          (
-            follows_so d c.requires.drafted whole one c.index-whole.ensures c.union.result c.index.result.now c.index.ensures c.union.ensures.value,
-            (
-              holds_so d c.requires.drafted whole one c.index-whole.ensures,
-              (
-                ends_are d c.requires.drafted whole one c.index-whole.ensures c.union-finals.result c.only_if.result (c.only_if.ensures ∙ ap (λ b. cond whole.nullable b 0) is_one) c.union-finals.ensures.value,
-                tt,
-              ),
-            ),
-          ),
-        ),
-      ),
-    )
+    let is_one : c.only.result.bits ≡ 1 = search rules in
+    record {
+      few = omega (arith, c.requires.span, c.requires.drafted.tabled.letters);
+      room = room_so d c.requires.drafted whole one c.index-whole.ensures;
+      span = c.requires.span;
+      follows = follows_so d c.requires.drafted whole one c.index-whole.ensures c.union.result c.index.result.now c.index.ensures c.union.ensures.value;
+      holds = holds_so d c.requires.drafted whole one c.index-whole.ensures;
+      ends = ends_are d c.requires.drafted whole one c.index-whole.ensures c.union-finals.result c.only_if.result (c.only_if.ensures ∙ ap (λ b. cond whole.nullable b 0) is_one) c.union-finals.ensures.value;
+    }
 
 pub returns : goal.returns
 returns c =
