@@ -6,18 +6,21 @@ mod failure;
 use alphabets::Service;
 use failure::Failure;
 use judging::{Verdict, judge};
+use std::process::ExitCode;
 use std::{fs, io};
 
 const PROCEDURE: &str = "procedure.txt";
 
 const TRACE: &str = "trace.txt";
 
-fn main(rt: HostRuntime) -> Result<(), Failure> {
-    let result = run(&rt);
-    if let Err(failure) = &result {
-        let _ = eprintln!(rt; "{failure}");
+fn main(rt: HostRuntime) -> ExitCode {
+    match run(&rt) {
+        Ok(()) => ExitCode::SUCCESS,
+        Err(failure) => {
+            let _ = eprintln!(rt; "{failure}");
+            ExitCode::FAILURE
+        }
     }
-    result
 }
 
 fn run(rt: &HostRuntime) -> Result<(), Failure> {

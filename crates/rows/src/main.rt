@@ -9,6 +9,7 @@ use bitsets::SmallSet;
 use blocks::Row;
 use failure::Failure;
 use places::rows_of;
+use std::process::ExitCode;
 use std::{env, fs, io};
 
 const PATTERN: &str = "pattern.txt";
@@ -16,12 +17,14 @@ const PATTERN: &str = "pattern.txt";
 // How many rows are printed at most.
 const LIMIT: usize = 256;
 
-fn main(rt: HostRuntime) -> Result<(), Failure> {
-    let result = run(&rt);
-    if let Err(failure) = &result {
-        let _ = eprintln!(rt; "{failure}");
+fn main(rt: HostRuntime) -> ExitCode {
+    match run(&rt) {
+        Ok(()) => ExitCode::SUCCESS,
+        Err(failure) => {
+            let _ = eprintln!(rt; "{failure}");
+            ExitCode::FAILURE
+        }
     }
-    result
 }
 
 fn run(rt: &HostRuntime) -> Result<(), Failure> {
