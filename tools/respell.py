@@ -110,6 +110,7 @@ has-past Has_past
 has-pow Has-pow
 has-test Has_test
 has-zero Has-zero
+has_within Has_within
 header-bytes header_bytes
 header-fields header_fields
 header-joined header_joined
@@ -152,6 +153,7 @@ lacks-append Lacks-append
 lacks-cons Lacks-cons
 lacks-first Lacks_first
 lacks-nil Lacks-nil
+lacks_rest Lacks_rest
 lasts-iff lasts_iff
 lawful-push Lawful-push
 leads-append Leads-append

@@ -148,5 +148,5 @@ or_assoc a b c =
     (λ k. Has-or (bit_or a b) c k ⇄ either (Has-or a b k) same ⇄ regroup ⇄ either same (back (Has-or b c k)) ⇄ back (Has-or a (bit_or b c) k))
 
 -- a set within another: what is below 2 ^ n stays so
-pub has_within : (n s t : ℕ) → ((k : ℕ) → Has s k → Has t k) → t < 2 ^ n → s < 2 ^ n
-has_within n s t h l = below-pow n s (λ k m. Has-below t k n l (h k m))
+pub Has_within : (n s t : ℕ) → ((k : ℕ) → Has s k → Has t k) → t < 2 ^ n → s < 2 ^ n
+Has_within n s t h l = below-pow n s (λ k m. Has-below t k n l (h k m))

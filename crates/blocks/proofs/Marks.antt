@@ -1,5 +1,5 @@
 -- Marking the rows that come next.
-use Rattle.std.proofs.Common.{◌≡◌, ℕ, zero, suc, ◌+◌, ◌<◌, ◌≤◌, Bool, true, false, ◌⊎◌, List, ◌∷◌, length, get_or, set, replicate, Decides, sym, refl, ◌∙◌, subst, inl, inr, ⊎_elim, arith}
+use Rattle.std.proofs.Common.{◌≡◌, ℕ, zero, suc, ◌+◌, ◌<◌, Bool, true, false, ◌⊎◌, List, ◌∷◌, length, get_or, set, replicate, Decides, sym, refl, ◌∙◌, subst, inl, inr, ⊎_elim, arith}
 use Rattle.blocks.proofs.Numbers.{get_or-blank}
 use Rattle.blocks.specs.Blocks.{Named, next, origin}
 use Rattle.blocks.specs.Marks.{Among, Marked, Tracked}

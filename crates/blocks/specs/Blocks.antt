@@ -1,5 +1,5 @@
 -- Blocks of rows, and when a block is exact.
-use Rattle.std.specs.Prelude.{◌≡◌, ℕ, ◌<◌, ◌≤◌, ◌⊎◌, List, [], ◌∷◌, length, get_or, slice_index, slice_index_or}
+use Rattle.std.specs.Prelude.{◌≡◌, ℕ, ◌<◌, ◌≤◌, ◌⊎◌, List, [], length, get_or, slice_index, slice_index_or}
 use Rattle.blocks.specs.Moves.{Moves}
 use Rattle.blocks.specs.declared.row.Row.{Row}
 

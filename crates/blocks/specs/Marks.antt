@@ -1,5 +1,5 @@
 -- Marking the rows that come next, row after row.
-use Rattle.std.specs.Prelude.{◌≡◌, ℕ, ◌<◌, Bool, true, false, ◌⊎◌, List, length, Decides, slice_index, slice_index_or}
+use Rattle.std.specs.Prelude.{◌≡◌, ℕ, ◌<◌, Bool, true, false, ◌⊎◌, List, Decides, slice_index, slice_index_or}
 use Rattle.blocks.specs.Blocks.{Named}
 use Rattle.blocks.specs.Moves.{Moves}
 use Rattle.blocks.specs.declared.row.Row.{Row}

@@ -130,8 +130,8 @@ united-lt f s n k l =
     below-pow k (united f s n) (λ q h. let u = (united_iff f s n q).0 h in Has-below (f u.0) q k (l u.0) u.3)
 
 -- where a letter leads, where only places below 64 are followed by others
-pub taken_takes : (e : Expr) (s a : ℕ) → ((p q : ℕ) → Has s p → Follows e p q → p < 64) → Takes e s a (taken e s a)
-taken_takes e s a l q =
+pub taken_takes_followed : (e : Expr) (s a : ℕ) → ((p q : ℕ) → Has s p → Follows e p q → p < 64) → Takes e s a (taken e s a)
+taken_takes_followed e s a l q =
     Has-and (united (followers e) s 64) (holders 0 e a) q
     ⇄ both (united_iff (followers e) s 64 q) (holders_iff 0 e q a)
     ⇄ (put, take)
@@ -143,6 +143,10 @@ taken_takes e s a l q =
     take : (p : ℕ) × Has s p × Follows e p q × Holds 0 e q a
         → ((p : ℕ) × (p < 64) × Has s p × Has (followers e p) q) × Holds 0 e q a
     take h = ((h.0, l h.0 q h.1 h.2, h.1, (followers_iff e h.0 q).1 h.2), h.3)
+
+-- where a letter leads, from places below 64
+pub taken_takes : (e : Expr) (s a : ℕ) → s < 2 ^ 64 → Takes e s a (taken e s a)
+taken_takes e s a small = taken_takes_followed e s a (λ p q h _. Has-below s p 64 small h)
 
 -- a letter leads to one set only
 pub takes_unique : (e : Expr) (s a t u : ℕ) → Takes e s a t → Takes e s a u → t ≡ u

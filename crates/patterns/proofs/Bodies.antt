@@ -1,9 +1,9 @@
 -- The lines of a pattern text, one after the other.
-use Rattle.std.proofs.Common.{◌≡◌, ℕ, ◌+◌, ◌^◌, ◌<◌, ◌≤◌, ◌⊎◌, List, [], ◌∷◌, ◌++◌, length, get_or, take, Some, None, vec_items, sym, refl, ap, ◌∙◌, subst, ap₂, inl, inr, arith}
+use Rattle.std.proofs.Common.{◌≡◌, ℕ, ◌+◌, ◌^◌, ◌<◌, ◌≤◌, List, [], ◌∷◌, ◌++◌, length, get_or, take, None, vec_items, sym, refl, ap, ◌∙◌, subst, inl, inr, arith}
 use Rattle.alphabets.proofs.Letters.{letters_below}
 use Rattle.alphabets.specs.Meaning.{Meaning, Sound}
 use Rattle.notation.proofs.Notation.{entry_Parts, entry_split, entry_joined, lines-push, Coded-push}
-use Rattle.notation.specs.Notation.{entry_bytes, entry_fields, fields_of, lines, Coded, GoesOn}
+use Rattle.notation.specs.Notation.{entry_bytes, entry_fields, fields_of, lines, GoesOn}
 use Rattle.notation.specs.declared.kinds.Kind.{Kind}
 use Rattle.notation.specs.declared.kinds.Kind.TheVariants as kind
 use Rattle.notation.specs.declared.entries.Entry.{Entry}
@@ -12,7 +12,7 @@ use Rattle.patterns.proofs.Fronts.{no_line, line_fields, line_stands}
 use Rattle.patterns.specs.Drafts.{Within, Added}
 use Rattle.patterns.specs.Reads.{Lines, Drawn, WrongLine, WrongNext, line_of}
 use Rattle.patterns.specs.Rules.{Follows}
-use Rattle.patterns.specs.Texts.{node_of, nodes, Suits, Keeps, Lawful, NoEntry}
+use Rattle.patterns.specs.Texts.{node_of, Suits, Keeps, Lawful, NoEntry}
 use Rattle.patterns.specs.declared.draft.Draft.{Draft}
 use Rattle.patterns.specs.declared.refusal.Fault.{Fault}
 use Rattle.patterns.specs.declared.refusal.PatternRefusal.{PatternRefusal}

@@ -1,8 +1,8 @@
 -- What reading a pattern text answers is determined by the text: the first rule that applies decides.
-use Rattle.std.proofs.Common.{◌≡◌, ℕ, ◌+◌, ◌^◌, ◌<◌, ◌≤◌, ◌⊎◌, List, [], ◌∷◌, ◌++◌, length, get_or, take, Some, None, Ok, Err, Option, sym, refl, ap, ◌∙◌, subst, subst₂, inl, inr, arith}
+use Rattle.std.proofs.Common.{◌≡◌, ℕ, ◌+◌, ◌^◌, ◌<◌, ◌≤◌, ◌⊎◌, List, [], ◌∷◌, ◌++◌, length, get_or, take, Some, None, Ok, Err, Option, sym, refl, ap, ◌∙◌, subst₂, inl, inr, arith}
 use Rattle.alphabets.specs.Meaning.{Meaning, Sound}
 use Rattle.notation.proofs.Notation.{entry_unique, header_unique}
-use Rattle.notation.specs.Notation.{header_bytes, entry_bytes, lines, Coded}
+use Rattle.notation.specs.Notation.{entry_bytes, lines, Coded}
 use Rattle.notation.specs.declared.kinds.Kind.{Kind}
 use Rattle.notation.specs.declared.kinds.Kind.TheVariants as kind
 use Rattle.patterns.specs.Determined.{Only}

@@ -1,12 +1,12 @@
 -- What one node more does to the patterns that stand and to the tables.
-use Rattle.std.proofs.Common.{◌≡◌, ℕ, zero, suc, ◌+◌, ◌<◌, ◌≤◌, Bool, true, false, ltb, List, [], ◌∷◌, ◌++◌, length, replicate, is_some, Some, None, vec_items, vec_len, Option, sym, refl, ap, ◌∙◌, subst, arith, lit≤, rules}
+use Rattle.std.proofs.Common.{◌≡◌, ℕ, zero, suc, ◌+◌, ◌<◌, ◌≤◌, ltb, List, [], ◌∷◌, ◌++◌, length, replicate, is_some, Some, None, vec_items, vec_len, Option, sym, refl, ap, ◌∙◌, subst, arith, lit≤, rules}
 use Rattle.expressions.specs.Expr.{Expr}
-use Rattle.patterns.specs.Drafts.{total, part, laid, inners, holding, Popped, Tabled, Drafted}
+use Rattle.patterns.specs.Drafts.{total, part, laid, inners, holding, Popped, Drafted}
 use Rattle.patterns.specs.Nodes.{standing, leaf_count}
 use Rattle.patterns.specs.Tables.{at}
 use Rattle.patterns.specs.declared.draft.Draft.{Draft}
 use Rattle.patterns.specs.declared.draft.Part.{Part}
-use Rattle.std.proofs.lemmas.List.{same_from_push, length_push, length-append}
+use Rattle.std.proofs.lemmas.List.{same_from_push, length_push}
 use Rattle.std.specs.Option.{option_to_list}
 
 -- as many parts as patterns stand

@@ -1,19 +1,19 @@
 -- The tables of a draft, with one node more.
-use Rattle.std.proofs.Common.{◌≡◌, ℕ, zero, suc, ◌+◌, ◌^◌, ◌<◌, ◌≤◌, Bool, true, false, cond, ◌&&◌, ◌||◌, ◌⊎◌, List, [], ◌∷◌, ◌++◌, length, get_or, Some, None, Ok, Err, vec_items, vec_len, Option, Result, Vec, sym, refl, ap, ◌∙◌, subst, ap₂, inl, inr, arith, pow_mono}
+use Rattle.std.proofs.Common.{◌≡◌, ℕ, zero, suc, ◌+◌, ◌^◌, ◌<◌, ◌≤◌, Bool, true, false, cond, ◌&&◌, ◌||◌, List, [], ◌∷◌, ◌++◌, length, Some, Ok, vec_items, vec_len, Vec, sym, refl, ap, ◌∙◌, subst, ap₂, arith, pow_mono}
 use Rattle.bitsets.proofs.Sets.{or_assoc, Has_past, Decides-Has}
 use Rattle.bitsets.specs.Sets.{has}
 use Rattle.bitsets.specs.declared.SmallSet.{SmallSet}
-use Rattle.expressions.specs.Expr.{Expr, never, empty, leaf, seq, alt, star, leaves, nullable}
+use Rattle.expressions.specs.Expr.{Expr, leaf, seq, alt, star, leaves}
 use Rattle.expressions.specs.Tables.{firsts, lasts, inner, holders}
 use Rattle.patterns.proofs.Standing.{inners_past, pushes_more, leaf_count_more, total_push}
-use Rattle.patterns.specs.Drafts.{total, part, laid, inners, holding, Popped, PoppedTwo, Tabled, Drafted, Grown, Grows, Added}
+use Rattle.patterns.specs.Drafts.{total, part, laid, inners, holding, Popped, PoppedTwo, Tabled, Drafted, Grows, Added}
 use Rattle.patterns.specs.Nodes.{push, standing, takes, one_leaf, leaf_count}
 use Rattle.patterns.specs.Tables.{at}
 use Rattle.patterns.specs.declared.draft.Draft.{Draft}
 use Rattle.patterns.specs.declared.draft.Part.{Part}
 use Rattle.patterns.specs.declared.node.Node.{Node}
-use Rattle.patterns.specs.declared.node.Node.TheVariants.{Never, Empty, Leaf, Seq, Alt, Star}
-use Rattle.std.proofs.lemmas.List.{get_or_past, get_or_append_left, get_or_push}
+use Rattle.patterns.specs.declared.node.Node.TheVariants.{Leaf, Seq, Alt, Star}
+use Rattle.std.proofs.lemmas.List.{get_or_past}
 use Rattle.std.specs.declared.alloc.Global.{Global}
 use lib.Bits.{bit_or, or_zero_r}
 use native.Mathlib.Decide.{dec_lt}

@@ -1,10 +1,10 @@
 -- From the steps of reading to what is said of the whole text.
-use Rattle.std.proofs.Common.{◌≡◌, ℕ, ◌+◌, ◌-◌, ◌^◌, ◌<◌, ◌≤◌, ◌⊎◌, ◌↔◌, List, [], ◌∷◌, ◌++◌, map, length, get_or, take, sym, refl, ap, ◌∙◌, subst, ap₂, inl, inr, arith}
+use Rattle.std.proofs.Common.{◌≡◌, ℕ, ◌+◌, ◌-◌, ◌^◌, ◌<◌, ◌≤◌, List, [], ◌∷◌, ◌++◌, length, get_or, take, sym, refl, ap, ◌∙◌, subst, inl, inr, arith}
 use Rattle.alphabets.specs.Meaning.{Meaning, Sound}
 use Rattle.expressions.specs.Expr.{Expr}
 use Rattle.expressions.specs.Sessions.{Session}
 use Rattle.notation.proofs.Notation.{written_unique}
-use Rattle.notation.specs.Notation.{header_bytes, entry_bytes, lines, written, Coded}
+use Rattle.notation.specs.Notation.{header_bytes, entry_bytes, lines}
 use Rattle.notation.specs.declared.kinds.Kind.{Kind}
 use Rattle.notation.specs.declared.kinds.Kind.TheVariants as kind
 use Rattle.patterns.proofs.Standing.{pushes_more}
@@ -12,7 +12,7 @@ use Rattle.patterns.specs.Nodes.{push, standing, takes, expression}
 use Rattle.patterns.specs.Patterns.{nodes_of, expr_of}
 use Rattle.patterns.specs.Reading.{RefusesText, Accepts, Comes}
 use Rattle.patterns.specs.Reads.{Lines, WrongLine, WrongNext, line_of}
-use Rattle.patterns.specs.Texts.{node_of, nodes, Lawful, IsText, TextSession, Begins, NoEntry}
+use Rattle.patterns.specs.Texts.{node_of, nodes, Lawful, IsText, TextSession, Begins}
 use Rattle.patterns.specs.declared.node.Node.{Node}
 use Rattle.patterns.specs.declared.node.Node.TheVariants.{Never, Empty, Leaf, Seq, Alt, Star}
 use Rattle.patterns.specs.declared.pattern.Pattern.{Pattern}

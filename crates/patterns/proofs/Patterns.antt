@@ -1,18 +1,17 @@
 -- The tables of a pattern: how a finished draft gives them, and what they tell.
 use Rattle.std.proofs.Common.{◌≡◌, ℕ, zero, suc, ◌+◌, ◌-◌, ◌^◌, ◌<◌, ◌≤◌, Bool, true, false, cond, not, eqb, List, [], ◌∷◌, ◌++◌, length, get_or, set, vec_items, vec_len, Decides, Vec, sym, refl, ap, ◌∙◌, subst, ap₂, add-zero, add-suc, add-one, arith, rules}
-use Rattle.bitsets.proofs.Sets.{Has-below}
 use Rattle.bitsets.specs.Sets.{has}
 use Rattle.bitsets.specs.declared.SmallSet.{SmallSet}
 use Rattle.expressions.proofs.Derivatives.{derives_iff}
 use Rattle.expressions.proofs.Tables.{taken_takes, Decides_ends}
 use Rattle.expressions.proofs.Theorem.{places_know_sessions_lem}
-use Rattle.expressions.specs.Expr.{Expr, derives, nullable}
+use Rattle.expressions.specs.Expr.{Expr, derives}
 use Rattle.expressions.specs.Places.{Takes, Ends, Leads}
 use Rattle.expressions.specs.Sessions.{Session}
-use Rattle.expressions.specs.Tables.{firsts, lasts, inner, followers, holders, endings, united, taken}
+use Rattle.expressions.specs.Tables.{firsts, inner, followers, holders, endings, united}
 use Rattle.patterns.proofs.Drafts.{length-laid}
 use Rattle.patterns.proofs.Grows.{at_past}
-use Rattle.patterns.specs.Drafts.{total, part, laid, inners, holding, Tabled, Drafted}
+use Rattle.patterns.specs.Drafts.{part, laid, Tabled, Drafted}
 use Rattle.patterns.specs.Nodes.{top, standing, expression}
 use Rattle.patterns.specs.Tables.{at}
 use Rattle.patterns.specs.declared.draft.Draft.{Draft}
@@ -55,7 +54,7 @@ module _ (e : Expr) (v w : Vec SmallSet Global) (s a : ℕ) (small : s < 2 ^ 64)
   pub takes_so : (r x h : ℕ) → x ≡ united (followers e) s (vec_len v) → h ≡ at (vec_items w) a → r ≡ bit_and x h → Takes e s a r
   takes_so r x h is_united is_holders is =
       let all = united_past (followers e) s (vec_len v) 64 room (λ p far. sym (follows p) ∙ at_past v p far) in
-      subst (λ t. Takes e s a t) (sym (is ∙ ap₂ bit_and (is_united ∙ sym all) (is_holders ∙ holds a))) (taken_takes e s a (λ p q h _. Has-below s p 64 small h))
+      subst (λ t. Takes e s a t) (sym (is ∙ ap₂ bit_and (is_united ∙ sym all) (is_holders ∙ holds a))) (taken_takes e s a small)
 
   pub takes_none : (r : ℕ) → vec_len w ≤ a → r ≡ 0 → Takes e s a r
   takes_none r far is =

@@ -1,12 +1,12 @@
 -- The patterns that stand, their leaves and their tables, with one node more.
-use Rattle.std.proofs.Common.{◌≡◌, ℕ, zero, suc, ◌+◌, ◌^◌, ◌<◌, ◌≤◌, List, [], ◌∷◌, ◌++◌, length, sym, refl, ap, ◌∙◌, ap₂, arith}
-use Rattle.bitsets.proofs.Sets.{no_members, or_assoc}
+use Rattle.std.proofs.Common.{◌≡◌, ℕ, ◌+◌, ◌<◌, ◌≤◌, List, [], ◌∷◌, ◌++◌, length, refl, ap₂, arith}
+use Rattle.bitsets.proofs.Sets.{no_members}
 use Rattle.expressions.proofs.Ranges.{inner_within}
 use Rattle.expressions.proofs.Tables.{inner_iff}
 use Rattle.expressions.specs.Expr.{Expr, leaves}
 use Rattle.expressions.specs.Tables.{inner}
 use Rattle.patterns.specs.Drafts.{total, inners}
-use Rattle.patterns.specs.Nodes.{push, pushes, standing, takes, one_leaf, leaf_count}
+use Rattle.patterns.specs.Nodes.{push, pushes, takes, one_leaf, leaf_count}
 use Rattle.patterns.specs.declared.node.Node.{Node}
 use Rattle.patterns.specs.declared.node.Node.TheVariants.{Never, Empty, Leaf, Seq, Alt, Star}
 use lib.Bits.{bit_or}

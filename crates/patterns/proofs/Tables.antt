@@ -1,5 +1,5 @@
 -- Tables of sets, one write at a time.
-use Rattle.std.proofs.Common.{◌≡◌, ℕ, ◌+◌, ◌<◌, ◌≤◌, Bool, true, false, cond, List, length, set, sym, refl, ap, ◌∙◌, arith, below_more}
+use Rattle.std.proofs.Common.{◌≡◌, ℕ, ◌+◌, ◌<◌, ◌≤◌, true, false, cond, List, length, set, sym, ap, ◌∙◌, arith, below_more}
 use Rattle.bitsets.specs.Sets.{has}
 use Rattle.bitsets.specs.declared.SmallSet.{SmallSet}
 use Rattle.patterns.specs.Tables.{at}

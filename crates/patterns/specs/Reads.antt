@@ -1,5 +1,5 @@
 -- The steps of reading a pattern text.
-use Rattle.std.specs.Prelude.{◌≡◌, ℕ, ◌+◌, ◌^◌, ◌<◌, ◌≤◌, ◌⊎◌, List, [], ◌∷◌, ◌++◌, length, Some, None, Ok, Err, vec_items, vec_len, Option, Result, ◌≢◌}
+use Rattle.std.specs.Prelude.{◌≡◌, ℕ, ◌+◌, ◌^◌, ◌<◌, ◌≤◌, ◌⊎◌, List, ◌∷◌, ◌++◌, length, Some, None, Ok, Err, vec_items, vec_len, Option, Result, ◌≢◌}
 use Rattle.alphabets.specs.Meaning.{Meaning}
 use Rattle.notation.specs.Notation.{header_bytes, entry_bytes, lines, Coded}
 use Rattle.notation.specs.declared.kinds.Kind.{Kind}

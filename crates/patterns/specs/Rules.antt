@@ -1,5 +1,5 @@
 -- When a node may follow other nodes.
-use Rattle.std.specs.Prelude.{ℕ, ◌+◌, ◌<◌, ◌≤◌, List, length}
+use Rattle.std.specs.Prelude.{◌+◌, ◌<◌, ◌≤◌, List, length}
 use Rattle.patterns.specs.Nodes.{takes, standing, leaf_count, one_leaf}
 use Rattle.patterns.specs.declared.node.Node.{Node}
 use Rattle.patterns.specs.declared.refusal.PatternRefusal.{PatternRefusal}

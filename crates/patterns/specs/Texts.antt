@@ -1,11 +1,11 @@
 -- What a pattern text is, which rules its lines keep, and what its sessions are.
-use Rattle.std.specs.Prelude.{◌≡◌, ℕ, ◌+◌, ◌^◌, ◌<◌, ◌≤◌, true, List, [], ◌∷◌, ◌++◌, map, length, take, ◌≢◌, slice_index_or}
+use Rattle.std.specs.Prelude.{◌≡◌, ℕ, ◌^◌, ◌<◌, ◌≤◌, true, List, ◌∷◌, ◌++◌, map, length, take, ◌≢◌, slice_index_or}
 use Rattle.alphabets.specs.Meaning.{Meaning, held_letters}
 use Rattle.expressions.specs.Sessions.{Session}
 use Rattle.notation.specs.Notation.{Coded, written, lines, header_bytes, entry_bytes}
 use Rattle.notation.specs.declared.kinds.Kind.{Kind}
 use Rattle.notation.specs.declared.kinds.Kind.TheVariants as kind
-use Rattle.patterns.specs.Nodes.{expression, standing}
+use Rattle.patterns.specs.Nodes.{expression}
 use Rattle.patterns.specs.Rules.{Follows}
 use Rattle.patterns.specs.declared.node.Node.{Node}
 use Rattle.patterns.specs.declared.node.Node.TheVariants.{Never, Empty, Leaf, Seq, Alt, Star}

@@ -4,7 +4,7 @@ use Rattle.bitsets.proofs.Sets.{Has-zero}
 use Rattle.bitsets.specs.Sets.{Has}
 use Rattle.bitsets.specs.declared.SmallSet.{SmallSet}
 use Rattle.blocks.specs.Moves.{after}
-use Rattle.expressions.proofs.Tables.{followers_iff, taken_takes}
+use Rattle.expressions.proofs.Tables.{followers_iff, taken_takes_followed}
 use Rattle.expressions.specs.Places.{Follows, Leads, Takes}
 use Rattle.expressions.specs.Tables.{followers, taken}
 use Rattle.patterns.specs.Patterns.{expr_of}
@@ -29,7 +29,7 @@ module _ (p : Pattern) where
 
   -- where a letter leads, from whatever places
   pub takes_so : (s a : ℕ) → Takes (expr_of p) s a (taken (expr_of p) s a)
-  takes_so s a = taken_takes (expr_of p) s a (λ k q _ h. followed_below k q h)
+  takes_so s a = taken_takes_followed (expr_of p) s a (λ k q _ h. followed_below k q h)
 
   -- where a word leads
   pub Leads_so : (n : ℕ) (w : List ℕ) (s : SmallSet) → Leads (expr_of p) s.bits w (after (place_moves (expr_of p) n) s w).bits

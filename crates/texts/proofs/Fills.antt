@@ -1,11 +1,9 @@
 -- A number's digits, written from the last to the first.
 use Rattle.std.proofs.Common.{◌≡◌, ℕ, ◌+◌, ◌-◌, ◌/◌, ◌%◌, ◌^◌, ◌<◌, ◌≤◌, List, [], ◌∷◌, ◌++◌, length, take, drop, set, decimal, sym, ap, ◌∙◌, subst, arith}
 use Rattle.std.proofs.lemmas.List.{append_assoc, drop-set, length_push, take_at}
-use Rattle.std.proofs.lemmas.Fmt.{decimal_digit, decimal_step, decimal_nonempty}
+use Rattle.std.proofs.lemmas.Fmt.{decimal_digit, decimal_step}
 use Rattle.texts.specs.Tokens.{Spelt}
 use Rattle.texts.specs.Numbers.{Wrote}
-use Rattle.texts.specs.declared.fields.Token.{Token}
-use Rattle.texts.specs.declared.fields.Token.TheVariants.{Number}
 use Rattle.texts.proofs.Texts.{Spelt_number}
 
 pub length_more : (n : ℕ) → 10 ≤ n → n < 2 ^ 64 → length (decimal n) ≡ length (decimal (n / 10)) + 1

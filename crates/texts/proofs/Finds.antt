@@ -1,7 +1,7 @@
 -- The first of a byte in a text, from an index on.
 use Rattle.std.proofs.Common.{◌≡◌, ℕ, ◌+◌, ◌-◌, ◌<◌, ◌≤◌, List, ◌∷◌, ◌++◌, length, get_or, take, drop, Some, None, sym, ap, ◌∙◌, arith, length-drop, length-take}
 use Rattle.std.proofs.lemmas.List.{take-append-drop, drop-drop, drop_more, get_or-drop, get_or-take}
-use Rattle.texts.specs.Parts.{Lacks, Parts, Found}
+use Rattle.texts.specs.Parts.{Found}
 
 -- no c stands from `from` up to i
 abbrev pub Clear : ℕ → List ℕ → ℕ → ℕ → Type 0

@@ -26,13 +26,13 @@ Lacks-cons c x xs other lacks (suc k) h e = lacks k (omega arith) e
 pub Lacks_first : (c x : ℕ) (xs : List ℕ) → Lacks c (x ∷ xs) → x ≡ c → ⊥
 Lacks_first c x xs lacks e = lacks 0 (omega arith) e
 
-pub lacks_rest : (c x : ℕ) (xs : List ℕ) → Lacks c (x ∷ xs) → Lacks c xs
-lacks_rest c x xs lacks k h e = lacks (suc k) (omega arith) e
+pub Lacks_rest : (c x : ℕ) (xs : List ℕ) → Lacks c (x ∷ xs) → Lacks c xs
+Lacks_rest c x xs lacks k h e = lacks (suc k) (omega arith) e
 
 pub Lacks-append : (c : ℕ) (xs ys : List ℕ) → Lacks c xs → Lacks c ys → Lacks c (xs ++ ys)
 Lacks-append c [] ys l m = m
 Lacks-append c (x ∷ xs) ys l m =
-    Lacks-cons c x (xs ++ ys) (Lacks_first c x xs l) (Lacks-append c xs ys (lacks_rest c x xs l) m)
+    Lacks-cons c x (xs ++ ys) (Lacks_first c x xs l) (Lacks-append c xs ys (Lacks_rest c x xs l) m)
 
 -- ---- the parts before and after the first c
 same_parts : (c : ℕ) (a b a' b' : List ℕ) → a ++ (c ∷ b) ≡ a' ++ (c ∷ b') → Lacks c a → Lacks c a' → (a ≡ a') × (b ≡ b')
@@ -42,7 +42,7 @@ same_parts c (x ∷ a) b [] b' e l l' = let h : x ≡ c = cc in absurd (Lacks_fi
 same_parts c (x ∷ a) b (y ∷ a') b' e l l' =
     let h : x ≡ y = cc in
     let t : a ++ (c ∷ b) ≡ a' ++ (c ∷ b') = cc in
-    let on = same_parts c a b a' b' t (lacks_rest c x a l) (lacks_rest c y a' l') in
+    let on = same_parts c a b a' b' t (Lacks_rest c x a l) (Lacks_rest c y a' l') in
     (λ i. h i ∷ on.0 i, on.1)
 
 pub Parts_unique : (c : ℕ) (xs a b a' b' : List ℕ) → Parts c xs a b → Parts c xs a' b' → (a ≡ a') × (b ≡ b')
@@ -50,7 +50,7 @@ Parts_unique c xs a b a' b' p q = same_parts c a b a' b' (sym p.whole ∙ q.whol
 
 holds_after : (c : ℕ) (a b : List ℕ) → Lacks c (a ++ (c ∷ b)) → ⊥
 holds_after c [] b lacks = Lacks_first c c b lacks refl
-holds_after c (x ∷ a) b lacks = holds_after c a b (lacks_rest c x (a ++ (c ∷ b)) lacks)
+holds_after c (x ∷ a) b lacks = holds_after c a b (Lacks_rest c x (a ++ (c ∷ b)) lacks)
 
 -- the part after the first c is shorter than the text: a loop over lines ends
 pub Parts-length : (c : ℕ) (xs a b : List ℕ) → Parts c xs a b → length a + 1 + length b ≡ length xs
@@ -63,7 +63,7 @@ Parts_not_Lacks c xs a b p lacks = holds_after c a b (subst (Lacks c) p.whole la
 split_here : (c : ℕ) (a b : List ℕ) → Lacks c a → split c (a ++ (c ∷ b)) ≡ a ∷ split c b
 split_here c [] b l = cond-true (eqb c c) _ _ (eq-eqb c c refl)
 split_here c (x ∷ a) b l =
-    cond-false (eqb x c) _ _ (ne_eqb x c (Lacks_first c x a l)) ∙ ap (onto x) (split_here c a b (lacks_rest c x a l))
+    cond-false (eqb x c) _ _ (ne_eqb x c (Lacks_first c x a l)) ∙ ap (onto x) (split_here c a b (Lacks_rest c x a l))
 
 pub split_parts : (c : ℕ) (xs a b : List ℕ) → Parts c xs a b → split c xs ≡ a ∷ split c b
 split_parts c xs a b p = ap (split c) p.whole ∙ split_here c a b p.first
@@ -71,7 +71,7 @@ split_parts c xs a b p = ap (split c) p.whole ∙ split_here c a b p.first
 pub split-Lacks : (c : ℕ) (xs : List ℕ) → Lacks c xs → split c xs ≡ xs ∷ []
 split-Lacks c [] l = refl
 split-Lacks c (x ∷ xs) l =
-    cond-false (eqb x c) _ _ (ne_eqb x c (Lacks_first c x xs l)) ∙ ap (onto x) (split-Lacks c xs (lacks_rest c x xs l))
+    cond-false (eqb x c) _ _ (ne_eqb x c (Lacks_first c x xs l)) ∙ ap (onto x) (split-Lacks c xs (Lacks_rest c x xs l))
 
 onto_some : (x : ℕ) (ps : List (List ℕ)) → 0 < length (onto x ps)
 onto_some x [] = omega arith

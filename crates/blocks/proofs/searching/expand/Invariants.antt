@@ -1,4 +1,4 @@
-use Rattle.std.proofs.Common.{◌<◌, ◌≤◌, vec_items, vec_len, vec_capacity}
+use Rattle.std.proofs.Common.{◌≤◌, vec_items, vec_len, vec_capacity}
 use Rattle.blocks.proofs.searching.expand.Given as goal
 use Rattle.blocks.specs.Search.{Grown}
 

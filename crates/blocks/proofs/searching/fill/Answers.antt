@@ -1,4 +1,4 @@
-use Rattle.std.proofs.Common.{◌≡◌, ◌≤◌, length, vec_items, vec_capacity, subst, arith, rules}
+use Rattle.std.proofs.Common.{◌≤◌, length, vec_items, vec_capacity, subst, arith, rules}
 use Rattle.blocks.proofs.Growing.{grown_found, grown_start, start_declines}
 use Rattle.blocks.proofs.searching.fill.Goals as goal
 use Rattle.blocks.specs.Search.{Seated}

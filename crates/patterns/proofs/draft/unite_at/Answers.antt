@@ -1,4 +1,4 @@
-use Rattle.std.proofs.Common.{◌≡◌, ◌<◌, length, vec_items, sym, ap, ◌∙◌, arith, rules}
+use Rattle.std.proofs.Common.{◌<◌, length, vec_items, sym, ap, ◌∙◌, rules}
 use Rattle.patterns.proofs.Tables.{united_put, united_skip}
 use Rattle.patterns.proofs.draft.unite_at.Goals as goal
 use Rattle.patterns.proofs.draft.unite_at.Goals.{then-holds, else-holds}

@@ -1,6 +1,6 @@
-use Rattle.std.proofs.Common.{◌≡◌, ◌^◌, ◌<◌, [], ◌∷◌, ◌++◌, sym, ap, ◌∙◌, arith, rules}
+use Rattle.std.proofs.Common.{◌^◌, ◌<◌, [], ◌∷◌, ◌++◌, sym, ap, ◌∙◌, arith}
 use Rattle.notation.specs.Notation.{fields_of}
-use Rattle.patterns.proofs.Bodies.{no_line_no_entry, no_way_on, ended_early, whole_stands, lines_none, lines_more, keeps_added, drawn_more, wrong_none, wrong_line}
+use Rattle.patterns.proofs.Bodies.{no_line_no_entry, no_way_on, ended_early, whole_stands, lines_more, keeps_added, drawn_more, wrong_none, wrong_line}
 use Rattle.patterns.proofs.reading.body.Goals as goal
 use Rattle.std.proofs.lemmas.List.{append_assoc, length_push}
 use Rattle.texts.specs.Lines.{rest, fields_left}

@@ -1,4 +1,4 @@
-use Rattle.std.proofs.Common.{◌≡◌, ℕ, ◌^◌, ◌<◌, ◌≤◌, ◌∷◌, ◌++◌, ap, ◌∙◌, inl, inr, arith, rules}
+use Rattle.std.proofs.Common.{◌≡◌, ◌^◌, ◌<◌, ◌∷◌, ◌++◌, ap, ◌∙◌, inl, inr, arith, rules}
 use Rattle.notation.specs.Notation.{header_bytes}
 use Rattle.patterns.proofs.Openings.{no_line_no_header, no_fields_no_header, header_stands}
 use Rattle.patterns.proofs.reading.opening.Goals as goal

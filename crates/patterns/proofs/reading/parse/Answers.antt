@@ -1,4 +1,4 @@
-use Rattle.std.proofs.Common.{◌≡◌, ◌+◌, ◌≤◌, [], length, sym, ap, ◌∙◌, subst, rules}
+use Rattle.std.proofs.Common.{◌≡◌, ◌+◌, [], length, sym, ap, ◌∙◌, subst, rules}
 use Rattle.patterns.proofs.Parses.{first_line, wrong_text, left_over, accepted}
 use Rattle.patterns.proofs.reading.parse.Goals as goal
 use Rattle.patterns.specs.Nodes.{standing}

@@ -1,4 +1,4 @@
-use Rattle.std.proofs.Common.{◌<◌, ◌≤◌, length, arith}
+use Rattle.std.proofs.Common.{arith}
 use Rattle.std.proofs.lemmas.Fmt.{decimal_nonempty}
 use Rattle.texts.proofs.Fills.{length_more, length_one, fill_more, fill_last}
 use Rattle.texts.proofs.numbers.fill.Goals as goal

@@ -1,4 +1,4 @@
-use Rattle.std.proofs.Common.{◌≡◌, ◌^◌, ◌<◌, get_or, drop, sym, refl, ◌∙◌, arith, below_more}
+use Rattle.std.proofs.Common.{◌≡◌, drop, sym, refl, ◌∙◌, arith, below_more}
 use Rattle.std.proofs.lemmas.List.{at_drop_all}
 use Rattle.std.proofs.lemmas.Bool.{both_ways}
 use Rattle.texts.proofs.Spellings.{read_on, read_on_more, no_led, no_more, reads_all}

@@ -1,4 +1,4 @@
-use Rattle.std.proofs.Common.{◌≡◌, ◌<◌, length, vec_items, sym, ap, ◌∙◌, rules}
+use Rattle.std.proofs.Common.{◌<◌, length, vec_items, sym, ap, ◌∙◌, rules}
 use Rattle.bitsets.specs.declared.SmallSet.{SmallSet}
 use Rattle.expressions.specs.Tables.{followers}
 use Rattle.patterns.proofs.Patterns.{united_take, united_pass}

@@ -1,4 +1,4 @@
-use Rattle.std.proofs.Common.{◌≡◌, ◌^◌, ◌<◌, ◌≤◌, length, vec_items, ap, arith, rules}
+use Rattle.std.proofs.Common.{◌^◌, ◌<◌, length, vec_items, ap, arith, rules}
 use Rattle.bitsets.specs.declared.SmallSet.{SmallSet}
 use Rattle.patterns.proofs.Patterns.{takes_so, takes_none}
 use Rattle.patterns.proofs.pattern.Pattern.take.Goals as goal

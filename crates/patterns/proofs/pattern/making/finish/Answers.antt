@@ -1,4 +1,4 @@
-use Rattle.std.proofs.Common.{◌≡◌, ◌≤◌, cond, length, vec_items, vec_len, refl, ap, ◌∙◌, arith, rules}
+use Rattle.std.proofs.Common.{◌≡◌, cond, length, vec_items, refl, ap, ◌∙◌, arith, rules}
 use Rattle.patterns.proofs.Drafts.{length-laid}
 use Rattle.patterns.proofs.Patterns.{one_stands_so, room_so, follows_so, holds_so, ends_are}
 use Rattle.patterns.proofs.pattern.making.finish.Goals as goal
