@@ -9,5 +9,6 @@ rm -f "out/$program"
 # this builds it, where all of it is proved; the run that follows finds no files here
 rt run > out/run.log 2>&1 || true
 [ -x "out/$program" ] || { cat out/run.log >&2; exit 1; }
-cd data
-exec "../out/$program" "$@"
+built=$PWD/out/$program
+[ ! -d data ] || cd data
+exec "$built" "$@"
