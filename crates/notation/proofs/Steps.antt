@@ -1,5 +1,5 @@
 -- What one field more says of a first line and of a node's line.
-use Rattle.std.proofs.Common.{◌≡◌, ℕ, ◌^◌, ◌<◌, ◌≤◌, Bool, true, false, List, [], ◌∷◌, ◌++◌, None, codes, decimal, Decides, sym, refl, ap, ◌∙◌, subst, arith}
+use Rattle.std.proofs.Common.{◌≡◌, ℕ, ◌^◌, ◌<◌, ◌≤◌, false, List, [], ◌∷◌, ◌++◌, None, codes, decimal, Decides, sym, ap, ◌∙◌, subst, arith}
 use Rattle.std.proofs.lemmas.Bool.{false≢true}
 use Rattle.std.proofs.lemmas.Fmt.{decimal_injective}
 use Rattle.texts.specs.Tokens.{Spelt}
@@ -9,36 +9,22 @@ use Rattle.notation.specs.declared.kinds.Kind.{Kind}
 use Rattle.notation.specs.declared.entries.Entry.{Entry}
 use Rattle.notation.specs.declared.entries.Entry.TheVariants.{Start, Named}
 use Rattle.notation.specs.Notation.{kind_name, fields_of, Heads, GoesOnBy}
-use Rattle.notation.specs.Fields.{TakesName, NoneFirst}
+use Rattle.notation.specs.Fields.{NoneFirst}
 use Rattle.notation.proofs.Notation.{kind_no_number, pattern_no_number}
 
 -- ---- the first line
--- the first field is the name, or it is not
-pub name_or_not : (r : Bool) (fs rest : List (List ℕ)) (w : List ℕ) → fs ≡ w ∷ rest → Decides r (w ≡ codes "pattern") → TakesName fs r rest
-name_or_not true fs rest w e d = let h : w ≡ codes "pattern" = d.0 refl in cc
-name_or_not false fs rest w e d = λ ws f. let h : w ≡ codes "pattern" = cc in false≢true (d.1 h)
-
 -- a number is not the name
 pub number_no_name : (w : List ℕ) (n : ℕ) → Spelt w (Number n) → Decides false (w ≡ codes "pattern")
 number_no_name w n s = (λ f. absurd (false≢true f), λ e. absurd (pattern_no_number n s.1 (sym e ∙ s.0)))
 
-module _ (fs rest : List (List ℕ)) (named : fs ≡ codes "pattern" ∷ rest) where
-  -- no number comes after the name
-  pub no_version : NoneFirst rest → Heads fs None
-  no_version none n m sn sm e = none 1 (decimal n ∷ (decimal m ∷ [])) (omega arith) (cc)
+-- another number than 1 comes after the name
+pub other_version : (fs rest after : List (List ℕ)) (v : ℕ) → fs ≡ codes "pattern" ∷ rest → rest ≡ decimal v ∷ after → v < 2 ^ 64 → (v ≡ 1 → ⊥) → Heads fs None
+other_version fs rest after v named at small other n m sn sm e =
+    let h : decimal v ≡ decimal 1 = cc in other (decimal_injective v 1 small (omega arith) h)
 
-  -- another number than 1 comes after the name
-  pub other_version : (v : ℕ) (rest' : List (List ℕ)) → rest ≡ decimal v ∷ rest' → v < 2 ^ 64 → (v ≡ 1 → ⊥) → Heads fs None
-  other_version v rest' at small other n m sn sm e =
-      let h : decimal v ≡ decimal 1 = cc in other (decimal_injective v 1 small (omega arith) h)
-
-  -- no number comes third
-  pub no_letters : (rest' : List (List ℕ)) → rest ≡ decimal 1 ∷ rest' → NoneFirst rest' → Heads fs None
-  no_letters rest' at none n m sn sm e = none n (decimal m ∷ []) sn (cc)
-
-  -- no number comes fourth
-  pub no_nodes : (rest' rest'' : List (List ℕ)) (l : List ℕ) → rest ≡ decimal 1 ∷ rest' → rest' ≡ l ∷ rest'' → NoneFirst rest'' → Heads fs None
-  no_nodes rest' rest'' l at at' none n m sn sm e = none m [] sm (cc)
+-- no number comes fourth
+pub no_nodes : (fs rest after left : List (List ℕ)) (v l : ℕ) → fs ≡ codes "pattern" ∷ rest → rest ≡ decimal v ∷ after → v ≡ 1 → after ≡ decimal l ∷ left → NoneFirst left → Heads fs None
+no_nodes fs rest after left v l named at is third none n m sn sm e = none m [] sm (cc)
 
 -- ---- a node's line
 -- no node's line begins with a number

@@ -4,6 +4,8 @@ use super::kinds::Kind;
 use texts::Token;
 
 /// A node's line, as far as its fields have been read.
+// The state of the loop over a line's fields that the project asks for inside the loop over the lines
+// (docs/DECISIONS.md, Language forms).
 #[derive(Clone, Copy, PartialEq, Eq, Debug)]
 pub enum Entry {
     Start,
@@ -13,26 +15,16 @@ pub enum Entry {
 
 impl Entry {
     /// One field more, where a node's line can go on so.
+    #[tactic(auto, using(crate::proofs::Steps::number_first, crate::proofs::Steps::code_large))]
     pub fn with(self, token: Token<'_>) -> Option<Entry>
         ensures { GoesOnBy self token.entry result }
     {
-        match self {
-            Entry::Start => match token {
-                Token::Word(word) => match Kind::named(word) {
-                    Some(kind) => Some(Entry::Named(kind)),
-                    None => None,
-                },
-                Token::Number(_) => None,
-            },
-            Entry::Named(kind) => match token {
-                Token::Number(code) if code <= u32::MAX as u64 => Some(Entry::Whole(
-                    kind,
-                    code as u32,
-                )),
-                Token::Number(_) => None,
-                Token::Word(_) => None,
-            },
-            Entry::Whole(_, _) => None,
+        match (self, token) {
+            (Entry::Start, Token::Word(word)) => Kind::named(word).map(Entry::Named),
+            (Entry::Named(kind), Token::Number(code)) => {
+                Some(Entry::Whole(kind, u32::try_from(code).ok()?))
+            }
+            _ => None,
         }
     }
 }

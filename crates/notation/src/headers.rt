@@ -18,38 +18,33 @@ pub fn header(mut line: Line<'_>) -> Option<Header>
     }
     let letters = take_number(&mut line)?;
     let nodes = take_number(&mut line)?;
-    match line.field() {
-        None => Some(Header { letters, nodes }),
-        Some(_) => None,
+    if line.field().is_some() {
+        return None;
     }
+    Some(Header { letters, nodes })
 }
 
 // Takes the next field, which has to be `pattern`.
 fn takes_name(line: &mut Line<'_>) -> bool
     ensures { TakesName (fields_left line.old) result (fields_left line.new) }
 {
-    match line.field() {
-        Some(token) => is_name(token),
-        None => false,
-    }
+    line.field().is_some_and(is_name)
 }
 
 // Whether the field is the word `pattern`.
+#[tactic(auto, using(crate::proofs::Steps::number_no_name))]
 fn is_name(token: Token<'_>) -> bool
     ensures { IsName token.entry result }
 {
-    match token {
-        Token::Word(word) => word == b"pattern".as_slice(),
-        Token::Number(_) => false,
-    }
+    matches!(token, Token::Word(b"pattern"))
 }
 
 // Takes the next field, which has to be a number.
 fn take_number(line: &mut Line<'_>) -> Option<u64>
     ensures { TakesNumber (fields_left line.old) result (fields_left line.new) }
 {
-    match line.field() {
-        Some(Token::Number(number)) => Some(number),
-        _ => None,
+    match line.field()? {
+        Token::Number(number) => Some(number),
+        Token::Word(_) => None,
     }
 }

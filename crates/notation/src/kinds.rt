@@ -1,6 +1,8 @@
 ghost use Rattle.notation.specs.Notation.{Names};
 
 /// What a node of a pattern is.
+// One type with the nodes that a pattern keeps, generic over what a leaf has, would be no plainer: the
+// word `leaf` would be `Kind::Leaf(())`.
 #[derive(Clone, Copy, PartialEq, Eq, Debug)]
 pub enum Kind {
     Never,
@@ -16,24 +18,14 @@ impl Kind {
     pub fn named(word: &[u8]) -> Option<Kind>
         ensures { Names word.now result }
     {
-        if word == b"never".as_slice() {
-            return Some(Kind::Never);
+        match word {
+            b"never" => Some(Kind::Never),
+            b"empty" => Some(Kind::Empty),
+            b"leaf" => Some(Kind::Leaf),
+            b"seq" => Some(Kind::Seq),
+            b"alt" => Some(Kind::Alt),
+            b"star" => Some(Kind::Star),
+            _ => None,
         }
-        if word == b"empty".as_slice() {
-            return Some(Kind::Empty);
-        }
-        if word == b"leaf".as_slice() {
-            return Some(Kind::Leaf);
-        }
-        if word == b"seq".as_slice() {
-            return Some(Kind::Seq);
-        }
-        if word == b"alt".as_slice() {
-            return Some(Kind::Alt);
-        }
-        if word == b"star".as_slice() {
-            return Some(Kind::Star);
-        }
-        None
     }
 }

@@ -1,4 +1,4 @@
 pub mod Texts
 pub mod Spellings
-pub mod Finds
 pub mod Fills
+pub mod Folds

@@ -1,5 +1,5 @@
 -- Laws of texts, pieces and tokens.
-use Rattle.std.proofs.Common.{◌≡◌, ℕ, zero, suc, ◌+◌, ◌^◌, ◌<◌, true, false, cond, eqb, ◌⊎◌, ◌↔◌, List, [], ◌∷◌, ◌++◌, length, get_or, decimal, sym, refl, ap, ◌∙◌, subst, ⊎_elim, arith}
+use Rattle.std.proofs.Common.{◌≤◌, ◌≡◌, ℕ, zero, suc, ◌+◌, ◌^◌, ◌<◌, true, false, cond, eqb, ◌⊎◌, ◌↔◌, List, [], ◌∷◌, ◌++◌, length, get_or, drop, Some, None, Option, Bor, decimal, sym, refl, ap, ◌∙◌, subst, ⊎_elim, arith, length-drop}
 use Rattle.std.specs.List.{AllByRecursion}
 use Rattle.std.specs.Int.{IsInRange}
 use Rattle.std.proofs.lemmas.Bool.{cases_Bool, eqb-true, eqb-false, eq-eqb, ne_eqb, cond-true, cond-false}
@@ -8,7 +8,7 @@ use Rattle.std.proofs.lemmas.Str.Parse.{not_in_digits}
 use Rattle.std.proofs.lemmas.Fmt.{digits_decimal, decimal_injective}
 use Rattle.texts.specs.Parts.{Lacks, Parts, split, onto, joined}
 use Rattle.texts.specs.Tokens.{NoNumber, Spelt, Alike}
-use Rattle.texts.specs.Lines.{rest, line_bytes, Gave}
+use Rattle.texts.specs.Lines.{rest, line_bytes, Gave, Took}
 use Rattle.texts.specs.declared.lines.Cursor.{Cursor}
 use Rattle.texts.specs.declared.lines.Line.{Line}
 use Rattle.texts.specs.declared.fields.Token.{Token}
@@ -171,3 +171,25 @@ Spelt_alike w (Word a) (Word b) s v = s.0 ∙ sym v.0
 -- ---- a cursor that gave a line has less of the text left
 pub gave_shorter : {before : Cursor} {l : Line} {after : Cursor} → Gave before l after → length (line_bytes l) + 1 + length (rest after) ≡ length (rest before)
 gave_shorter {before} {l} {after} g = Parts-length 10 (rest before) (line_bytes l) (rest after) g.parts
+
+-- ---- a line hands out a field: one before a comma, or the last
+abbrev left_fields : Option (Bor (List ℕ)) → List (List ℕ)
+left_fields o = elim o [ Some b ↦ split 44 b.now | None ↦ [] ]
+
+pub took_front : (before after : Line) (t : Token) (a : List ℕ) (left rest : _) → before.left ≡ Some left → after.left ≡ Some rest → Parts 44 left.now a rest.now → Spelt a t → Took before t after
+took_front before after t a left rest from to parts spelt = record {
+  word = a;
+  split_off = ap left_fields from ∙ split_parts 44 left.now a rest.now parts ∙ ap (λ fs. a ∷ fs) (sym (ap left_fields to));
+  spelt = spelt;
+}
+
+pub took_last : (before after : Line) (t : Token) (left : _) → before.left ≡ Some left → after.left ≡ None → Lacks 44 left.now → Spelt left.now t → Took before t after
+took_last before after t left from to lacks spelt = record {
+  word = left.now;
+  split_off = ap left_fields from ∙ split-Lacks 44 left.now lacks ∙ ap (λ fs. left.now ∷ fs) (sym (ap left_fields to));
+  spelt = spelt;
+}
+
+-- ---- a cursor past the last byte
+pub drop_nil : (n : ℕ) (xs : List ℕ) → drop n xs ≡ [] → length xs ≤ n
+drop_nil n xs e = omega (arith, length-drop n xs, ap length e)

@@ -1,5 +1,5 @@
 -- The lines of a text and the fields of a line.
-use Rattle.std.specs.Prelude.{◌≡◌, ℕ, cond, List, [], ◌∷◌, drop, Some, None, Option}
+use Rattle.std.specs.Prelude.{◌≡◌, ℕ, List, [], ◌∷◌, drop, Some, None, Option}
 use Rattle.texts.specs.Parts.{Lacks, Parts, split}
 use Rattle.texts.specs.Tokens.{Spelt}
 use Rattle.texts.specs.declared.lines.Cursor.{Cursor}
@@ -20,7 +20,7 @@ line_bytes l = l.bytes.now
 
 -- the fields of a line that have not been handed out
 abbrev pub fields_left : Line → List (List ℕ)
-fields_left l = cond l.ended [] (split 44 (drop l.at l.bytes.now))
+fields_left l = elim l.left [ Some b ↦ split 44 b.now | None ↦ [] ]
 
 -- no field has been handed out
 abbrev pub Fresh : Line → Type 0

@@ -4,10 +4,6 @@ ghost use Rattle.texts.specs.Parts.{Found};
 pub(crate) fn first_at(bytes: &[u8], from: usize, c: u8) -> Option<usize>
     ensures { Found c bytes.now from result }
 {
-    for i in from..bytes.len() {
-        if bytes[i] == c {
-            return Some(i);
-        }
-    }
-    None
+    let before = bytes.get(from..)?.iter().position(|b| *b == c)?;
+    Some(from + before)
 }

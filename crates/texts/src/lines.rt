@@ -1,26 +1,30 @@
-ghost use Rattle.std.specs.Prelude.{◌≡◌, [], drop, Decides};
-ghost use Rattle.texts.specs.Lines.{rest, whole_text, line_bytes, NextLine, NextField};
+ghost use Rattle.std.proofs.Props.{props};
+ghost use Rattle.std.specs.Prelude.{◌≡◌, ◌-◌, [], length, drop, Decides, IfSome};
 
 use super::fields::Token;
 use super::find::first_at;
 use super::tokens::token;
 
 /// Goes through a text, line after line.
-#[derive(Clone, Copy)]
+#[derive(Clone, Copy, PartialEq, Eq, Debug)]
 pub struct Cursor<'a> {
     text: &'a [u8],
+    // A cursor over the lent text, as the project asks (docs/DECISIONS.md, Language forms).
     at: usize,
 }
 
 /// The bytes of one line, whose fields are handed out one after another.
-#[derive(Clone, Copy)]
+#[derive(Clone, Copy, PartialEq, Eq, Debug)]
 pub struct Line<'a> {
     bytes: &'a [u8],
-    at: usize,
-    ended: bool,
+    // The fields that have not been handed out, if one is left: an end of the bytes.
+    left: Option<&'a [u8]>,
+    ghost end: { IfSome left (λ l. l.now ≡ drop (length bytes.now - length l.now) bytes.now) } by { Prim.hlevel props },
 }
 
 impl<'a> Cursor<'a> {
+    ghost use Rattle.texts.specs.Lines.{rest, whole_text, NextLine};
+
     /// At the start of the text.
     pub fn new(text: &'a [u8]) -> Cursor<'a>
         ensures rest { rest result ≡ text.now }
@@ -34,22 +38,17 @@ impl<'a> Cursor<'a> {
         ensures line { NextLine self.old result self.new }
         ensures text { self.new.text ≡ self.old.text }
     {
-        let text = self.text;
-        let start = self.at;
-        match first_at(text, start, b'\n') {
-            Some(end) => {
-                self.at = end + 1;
-                Some(Line {
-                    bytes: &text[start..end],
-                    at: 0,
-                    ended: false,
-                })
-            }
-            None => None,
-        }
+        let end = first_at(self.text, self.at, b'\n')?;
+        let bytes = &self.text[self.at..end];
+        self.at = end + 1;
+        Some(Line {
+            bytes,
+            left: Some(bytes),
+        })
     }
 
     /// Whether nothing is left of the text.
+    #[tactic(auto, using(std::proofs::lemmas::List::drop_all, crate::proofs::Texts::drop_nil))]
     pub fn at_end(&self) -> bool
         ensures { Decides result (rest self.now ≡ []) }
     {
@@ -58,6 +57,8 @@ impl<'a> Cursor<'a> {
 }
 
 impl<'a> Line<'a> {
+    ghost use Rattle.texts.specs.Lines.{line_bytes, NextField};
+
     /// The line's bytes, without the newline.
     pub fn bytes(&self) -> &'a [u8]
         ensures { result.now ≡ line_bytes self.now }
@@ -70,30 +71,13 @@ impl<'a> Line<'a> {
         ensures field { NextField self.old result self.new }
         ensures bytes { self.new.bytes ≡ self.old.bytes }
     {
-        let Line { bytes, at, ended } = *self;
-        if ended {
-            return None;
-        }
-        match first_at(bytes, at, b',') {
+        let left = self.left.take()?;
+        match first_at(left, 0, b',') {
             Some(end) => {
-                self.at = end + 1;
-                Some(token(&bytes[at..end]))
+                self.left = Some(&left[end + 1..]);
+                Some(token(&left[..end]))
             }
-            None => {
-                self.ended = true;
-                Some(token(after(bytes, at)))
-            }
+            None => Some(token(left)),
         }
-    }
-}
-
-// What stands at or after the index.
-fn after(text: &[u8], start: usize) -> &[u8]
-    ensures { result.now ≡ drop start text.now }
-{
-    if start < text.len() {
-        &text[start..]
-    } else {
-        &text[text.len()..]
     }
 }

@@ -14,42 +14,33 @@ pub fn token<'a>(field: &'a [u8]) -> Token<'a>
 }
 
 // The number that the field spells, if it spells one.
+#[tactic(auto, using(crate::proofs::Spellings::no_led))]
 fn number(field: &[u8]) -> Option<u64>
     ensures { Reads field.now result }
 {
     if !well_led(field) {
         return None;
     }
-    let mut value = 0;
-    for b in field {
-        match with_digit(value, *b) {
-            Some(more) => value = more,
-            None => return None,
-        }
-    }
-    Some(value)
+    field.iter().try_fold(0, |value, b| with_digit(value, *b))
 }
 
 // Whether the field is not empty and has no zero before other bytes.
 fn well_led(field: &[u8]) -> bool
     ensures { Decides result (WellLed field.now) }
 {
-    if field.is_empty() {
-        return false;
+    match field {
+        [] => false,
+        [_] => true,
+        [first, ..] => *first != b'0',
     }
-    field.len() == 1 || field[0] != b'0'
 }
 
 // `value` with one more digit, unless the byte is no digit or the number is too large.
 fn with_digit(value: u64, byte: u8) -> Option<u64>
     ensures { Grows value byte result }
 {
-    if byte < b'0' || byte > b'9' {
+    if !byte.is_ascii_digit() {
         return None;
     }
-    let digit = (byte - b'0') as u64;
-    if value > (u64::MAX - digit) / 10 {
-        return None;
-    }
-    Some(value * 10 + digit)
+    value.checked_mul(10)?.checked_add(u64::from(byte - b'0'))
 }

@@ -3,4 +3,4 @@ use Rattle.texts.proofs.Fills.{wrote}
 use Rattle.texts.proofs.numbers.write_number.Goals as goal
 
 pub returns : goal.returns
-returns c = wrote c.args.number c.args.buffer.now _ _ (omega arith) c.if-buffer-len.false c.digits-len.ensures c.fill.ensures
+returns c = wrote c.args.number c.args.buffer.now _ _ (omega arith) (omega arith) (cc) (cc)
