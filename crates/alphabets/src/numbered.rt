@@ -7,7 +7,7 @@ use crate::{Alphabet, AlphabetRefusal};
 use texts::{Token, token};
 
 /// Letters 0 to n - 1. Code c is valid below n and holds the letter c alone; a letter's name is its decimal number.
-#[derive(Clone, Copy)]
+#[derive(Clone, Copy, PartialEq, Eq, Debug)]
 pub struct Numbered {
     n: u8,
     ghost some: { 1 ≤ n },
@@ -19,7 +19,7 @@ impl Numbered {
     pub fn new(n: u8) -> Result<Numbered, AlphabetRefusal>
         ensures { MatchResult result (λ a. (1 ≤ n) × (n ≤ 16) × (a.n ≡ n)) (λ e. ((1 ≤ n) × (n ≤ 16) → ⊥) × (e ≡ AlphabetRefusal.Letters)) }
     {
-        if 1 <= n && n <= 16 {
+        if (1..=16).contains(&n) {
             Ok(Numbered { n })
         } else {
             Err(AlphabetRefusal::Letters)
@@ -48,10 +48,6 @@ impl Alphabet for Numbered {
         let Token::Number(k) = token(name) else {
             return None;
         };
-        if k < u64::from(self.n) {
-            Some(k as u8)
-        } else {
-            None
-        }
+        u8::try_from(k).ok().filter(|k| *k < self.n)
     }
 }

@@ -1,6 +1,5 @@
 //! The alphabet of the services of a vehicle's diagnosis.
-ghost use Rattle.std.specs.Prelude.{◌≡◌, [], slice_index_or};
-ghost use Rattle.alphabets.specs.Services.{service, service_names};
+ghost use Rattle.alphabets.specs.Services.{service};
 ghost use Rattle.alphabets.specs.Sounds.{service_sound};
 
 use crate::Alphabet;
@@ -13,7 +12,7 @@ const LETTERS: u8 = 16;
 const SETS: u32 = 65_536;
 
 /// The name of each letter: a service of ISO 14229-1, or the answer that refuses one.
-const NAMES: [&[u8]; 16] = [
+const NAMES: [&[u8]; LETTERS as usize] = [
     b"alive", // TesterPresent: the tester is still there
     b"session", // DiagnosticSessionControl: change what the unit allows
     b"reset", // ECUReset: restart the unit
@@ -33,7 +32,7 @@ const NAMES: [&[u8]; 16] = [
 ];
 
 /// The services of a vehicle's diagnosis. A code is a set of letters, letter k counting 2^k, and valid from 1 to 65,535.
-#[derive(Clone, Copy)]
+#[derive(Clone, Copy, PartialEq, Eq, Debug)]
 pub struct Service;
 
 impl Alphabet for Service {
@@ -46,7 +45,7 @@ impl Alphabet for Service {
     }
 
     fn valid(&self, code: u32) -> bool {
-        1 <= code && code < SETS
+        (1..SETS).contains(&code)
     }
 
     fn holds(&self, code: u32, letter: u8) -> bool {
@@ -57,22 +56,9 @@ impl Alphabet for Service {
     }
 
     fn letter(&self, name: &[u8]) -> Option<u8> {
-        for k in 0..LETTERS {
-            if service_name(k) == name {
-                return Some(k);
-            }
-        }
-        None
-    }
-}
-
-/// The name of a letter, or the empty text past the last letter.
-fn service_name(letter: u8) -> &'static [u8]
-    ensures { result.now ≡ slice_index_or service_names letter [] }
-{
-    if (letter as usize) < NAMES.len() {
-        NAMES[letter as usize]
-    } else {
-        b""
+        NAMES
+            .iter()
+            .position(|known| name == *known)
+            .map(|k| k as u8)
     }
 }

@@ -1,6 +1,13 @@
 use super::*;
 use std::test::Fail;
 
+// Whether each name is that of its letter, or of none.
+fn has_names<A: Alphabet>(alphabet: &A, names: &[(&[u8], Option<u8>)]) -> bool {
+    names
+        .iter()
+        .all(|(name, letter)| alphabet.letter(name) == *letter)
+}
+
 #[test]
 fn numbered_alphabets(rt: HostRuntime) -> Result<(), Fail> {
     for (n, taken) in [(0u8, false), (1, true), (16, true), (17, false)].iter() {
@@ -15,9 +22,7 @@ fn numbered_alphabets(rt: HostRuntime) -> Result<(), Fail> {
         (b"16", None),
         (b"", None),
     ];
-    for (name, letter) in names.iter() {
-        assert_eq!(rt; alphabet.letter(name), *letter);
-    }
+    assert!(rt; has_names(&alphabet, &names));
     assert_eq!(rt; alphabet.letters(), 16);
     assert!(rt; alphabet.valid(15) && !alphabet.valid(16));
     assert!(rt; alphabet.holds(15, 15) && !alphabet.holds(15, 14));
@@ -47,9 +52,7 @@ fn service_names(rt: HostRuntime) {
         (b"code", None),
         (b"", None),
     ];
-    for (name, letter) in names.iter() {
-        assert_eq!(rt; Service.letter(name), *letter);
-    }
+    assert!(rt; has_names(&Service, &names));
     assert_eq!(rt; Service.letters(), 16);
 }
 

@@ -1,7 +1,7 @@
 use bitsets::SmallSet;
 
 /// What is known after an event of a trace.
-#[derive(Clone, Copy)]
+#[derive(Clone, Copy, PartialEq, Eq, Debug)]
 pub struct Verdict<'t> {
     /// The event's name, as it stands in the trace.
     pub name: &'t [u8],

@@ -1,20 +1,13 @@
 use Rattle.judging.proofs.Steps.{so_far_pass, so_far_more, so_far_all}
 use Rattle.judging.proofs.following.follow.Goals as goal
-use Rattle.std.proofs.Common.{[], vec_items, refl, arith}
-use Rattle.texts.proofs.Texts.{gave_shorter}
+use Rattle.std.proofs.Common.{[], vec_items, refl}
 use Rattle.texts.specs.Lines.{rest, line_bytes}
-
-pub loop-line-smaller-in_default-letter : goal.loop-line-smaller-in_default-letter
-loop-line-smaller-in_default-letter g c = omega (arith, gave_shorter c.in-Some.ensures.line)
 
 -- after a line that is no name
 pub loop-line-preserved-in_default-letter : goal.loop-line-preserved-in_default-letter
 loop-line-preserved-in_default-letter g c =
     so_far_pass c.loop-line.invariant (line_bytes c.in-Some.line) (rest c.line.new.self) c.bytes-name.result.now
     c.in-Some.ensures.line.parts c.bytes-name.ensures c.in_default-letter.ensures
-
-pub loop-line-smaller : goal.loop-line-smaller
-loop-line-smaller g c = omega (arith, gave_shorter c.in-Some.ensures.line)
 
 -- after a name
 pub loop-line-preserved : goal.loop-line-preserved
