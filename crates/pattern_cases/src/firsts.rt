@@ -1,5 +1,6 @@
 // The first line.
-use crate::case::{Row, TWO, run_all};
+use crate::case::{Bench, Row};
+use alphabets::Numbered;
 
 // First lines that are malformed or absent.
 const MALFORMED: [Row; 22] = [
@@ -52,7 +53,7 @@ const NUMBERS: [Row; 9] = [
     ("an m of 0 and a malformed line", b"pattern,1,2,0\nleaf\n"),
 ];
 
-pub(crate) fn run(rt: &HostRuntime) -> anyhow::Result<()> {
-    run_all(rt, TWO, &MALFORMED)?;
-    run_all(rt, TWO, &NUMBERS)
+pub(crate) fn run(two: &Bench<'_, Numbered>) -> anyhow::Result<()> {
+    two.run_all(&MALFORMED)?;
+    two.run_all(&NUMBERS)
 }

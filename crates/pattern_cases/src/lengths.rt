@@ -1,14 +1,14 @@
 // Long texts: how many bytes, nodes and leaves there may be.
-use crate::case;
-use crate::case::TWO;
+use crate::case::Bench;
+use alphabets::Numbered;
 use std::alloc::{AllocError, Global};
 
 // These bytes, so many times.
-#[derive(Clone, Copy)]
+#[derive(Clone, Copy, PartialEq, Eq, Debug)]
 struct Piece(&'static [u8], u16);
 
 // A text in pieces, with its label.
-#[derive(Clone, Copy)]
+#[derive(Clone, Copy, PartialEq, Eq, Debug)]
 struct Case(&'static str, &'static [Piece]);
 
 // How many bytes: 21 + 16 * 254 + 11 and 16 * 256 are 4096.
@@ -132,17 +132,17 @@ const LEAVES: [Case; 8] = [
     ),
 ];
 
-pub(crate) fn run(rt: &HostRuntime) -> anyhow::Result<()> {
-    run_all(rt, &BYTES)?;
-    run_all(rt, &NODES)?;
-    run_all(rt, &LEAVES)
+pub(crate) fn run(two: &Bench<'_, Numbered>) -> anyhow::Result<()> {
+    run_all(two, &BYTES)?;
+    run_all(two, &NODES)?;
+    run_all(two, &LEAVES)
 }
 
 // Prints a line for each case.
-fn run_all(rt: &HostRuntime, cases: &[Case]) -> anyhow::Result<()> {
+fn run_all(two: &Bench<'_, Numbered>, cases: &[Case]) -> anyhow::Result<()> {
     for Case(label, pieces) in cases {
-        let text = joined(rt.alloc(), pieces)?;
-        case::run(rt, label, TWO, text.as_slice())?;
+        let text = joined(two.rt.alloc(), pieces)?;
+        two.run(label, &text)?;
     }
     Ok(())
 }

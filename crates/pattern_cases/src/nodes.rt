@@ -1,5 +1,6 @@
 // The lines after the first.
-use crate::case::{Row, TWO, run_all};
+use crate::case::{Bench, Row};
+use alphabets::Numbered;
 
 // Lines that are malformed or absent, and text after the last line.
 const MALFORMED: [Row; 21] = [
@@ -78,8 +79,8 @@ const STANDING: [Row; 9] = [
     ),
 ];
 
-pub(crate) fn run(rt: &HostRuntime) -> anyhow::Result<()> {
-    run_all(rt, TWO, &MALFORMED)?;
-    run_all(rt, TWO, &CODES)?;
-    run_all(rt, TWO, &STANDING)
+pub(crate) fn run(two: &Bench<'_, Numbered>) -> anyhow::Result<()> {
+    two.run_all(&MALFORMED)?;
+    two.run_all(&CODES)?;
+    two.run_all(&STANDING)
 }

@@ -1,5 +1,6 @@
 // Alphabets other than that of two letters.
-use crate::case::{Letters, Row, run_all};
+use crate::case::{Bench, Row};
+use alphabets::{Numbered, Service};
 
 // Codes of the services: sets of 16 letters.
 const SERVICES: [Row; 6] = [
@@ -31,7 +32,21 @@ const SIXTEEN: [Row; 2] = [
 ];
 
 pub(crate) fn run(rt: &HostRuntime) -> anyhow::Result<()> {
-    run_all(rt, Letters::Service, &SERVICES)?;
-    run_all(rt, Letters::Numbered(1), &ONE)?;
-    run_all(rt, Letters::Numbered(16), &SIXTEEN)
+    let services = Bench {
+        rt,
+        alphabet: &Service,
+    };
+    services.run_all(&SERVICES)?;
+    numbered(rt, 1, &ONE)?;
+    numbered(rt, 16, &SIXTEEN)
+}
+
+// Under the numbered alphabet of so many letters.
+fn numbered(rt: &HostRuntime, n: u8, rows: &[Row]) -> anyhow::Result<()> {
+    let alphabet = Numbered::new(n)?;
+    Bench {
+        rt,
+        alphabet: &alphabet,
+    }
+    .run_all(rows)
 }

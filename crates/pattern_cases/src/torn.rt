@@ -1,16 +1,16 @@
 // The first bytes of a good text: only the whole of it is read.
-use crate::case;
-use crate::case::{SMALL, TWO};
+use crate::case::{Bench, SMALL};
+use alphabets::Numbered;
 
-pub(crate) fn run(rt: &HostRuntime) -> anyhow::Result<()> {
-    run_torn(rt, SMALL)
+pub(crate) fn run(two: &Bench<'_, Numbered>) -> anyhow::Result<()> {
+    run_torn(two, SMALL)
 }
 
 // Prints a line for each length, from none of the text to the whole.
-fn run_torn(rt: &HostRuntime, text: &[u8]) -> anyhow::Result<()> {
+fn run_torn(two: &Bench<'_, Numbered>, text: &[u8]) -> anyhow::Result<()> {
     for len in 0..=text.len() {
-        let label = format!(in rt.alloc(); "torn after {len} bytes")?;
-        case::run(rt, label.as_str(), TWO, &text[0..len])?;
+        let label = format!(in two.rt.alloc(); "torn after {len} bytes")?;
+        two.run(label.as_str(), &text[..len])?;
     }
     Ok(())
 }

@@ -1,5 +1,6 @@
 // The words that a pattern read accepts, letter by letter.
-use crate::case::{Row, SMALL, TWO, read};
+use crate::case::{Bench, Row, SMALL};
+use alphabets::Numbered;
 use patterns::pattern::Pattern;
 
 // All words over two letters, up to the length 3.
@@ -17,11 +18,11 @@ const PATTERNS: [Row; 5] = [
 ];
 
 // Prints the words that each pattern accepts.
-pub(crate) fn run(rt: &HostRuntime) -> anyhow::Result<()> {
+pub(crate) fn run(two: &Bench<'_, Numbered>) -> anyhow::Result<()> {
     for (label, text) in PATTERNS.iter() {
-        let mut pattern = Pattern::blank(rt.alloc());
-        let _ = read(&mut pattern, rt.alloc(), TWO, text)?;
-        print_words(rt, label, &pattern)?;
+        let mut pattern = Pattern::blank(two.rt.alloc());
+        pattern.read(two.rt.alloc(), two.alphabet, text)?;
+        print_words(two.rt, label, &pattern)?;
     }
     Ok(())
 }
@@ -38,9 +39,8 @@ fn print_words(rt: &HostRuntime, label: &str, pattern: &Pattern) -> anyhow::Resu
 
 // Whether the places that the word leads to from the start hold an end.
 fn accepts(pattern: &Pattern, word: &str) -> bool {
-    let mut places = Pattern::start();
-    for byte in word.bytes() {
-        places = pattern.take(places, byte.wrapping_sub(b'a'));
-    }
+    let places = word.bytes().fold(Pattern::start(), |places, byte| {
+        pattern.take(places, byte.wrapping_sub(b'a'))
+    });
     pattern.ends(places)
 }

@@ -1,5 +1,5 @@
 -- The lines of a pattern text, one after the other.
-use Rattle.std.proofs.Common.{◌≡◌, ℕ, ◌+◌, ◌^◌, ◌<◌, ◌≤◌, List, [], ◌∷◌, ◌++◌, length, get_or, take, None, vec_items, sym, refl, ap, ◌∙◌, subst, inl, inr, arith}
+use Rattle.std.proofs.Common.{◌≡◌, ℕ, ◌+◌, ◌^◌, ◌<◌, List, [], ◌∷◌, ◌++◌, length, get_or, take, None, vec_items, sym, refl, ap, ◌∙◌, subst, inl, inr, arith}
 use Rattle.alphabets.proofs.Letters.{letters_below}
 use Rattle.alphabets.specs.Meaning.{Meaning, Sound}
 use Rattle.notation.proofs.Notation.{entry_Parts, entry_split, entry_joined, lines-push, Coded-push}
@@ -9,7 +9,8 @@ use Rattle.notation.specs.declared.kinds.Kind.TheVariants as kind
 use Rattle.notation.specs.declared.entries.Entry.{Entry}
 use Rattle.notation.specs.declared.entries.Entry.TheVariants.{Start, Named, Whole}
 use Rattle.patterns.proofs.Fronts.{no_line, line_fields, line_stands}
-use Rattle.patterns.specs.Drafts.{Within, Added}
+use Rattle.patterns.specs.Drafts.{Within}
+use Rattle.patterns.specs.Pushes.{Added}
 use Rattle.patterns.specs.Reads.{Lines, Drawn, WrongLine, WrongNext, line_of}
 use Rattle.patterns.specs.Rules.{Follows}
 use Rattle.patterns.specs.Texts.{node_of, Suits, Keeps, Lawful, NoEntry}
@@ -118,25 +119,24 @@ drawn_more m ls d after k c drawn added =
       nodes_are =
           added.nodes ∙ ap (λ xs. xs ++ (node_of m k c ∷ [])) drawn.nodes_are
           ∙ sym (map_push (λ (l : Kind × ℕ). node_of m l.0 l.1) ls (k, c));
-      drafted = added.drafted;
       letters = added.letters ∙ drawn.letters;
     }
 
 -- the refusals of a line
-module _ (m : Meaning) (text : List ℕ) (count done : ℕ) (ls : List (Kind × ℕ)) (before : List ℕ)
-    (read : Lines m text ls before) (is-done : length ls ≡ done) (not-all : done ≡ count → ⊥) (so_far : done ≤ count) where
-  pub wrong_none : NoEntry before → WrongNext m text count refusal.Line (done + 2)
-  wrong_none none = (ls, before, read, omega (arith, not-all), omega arith, inl (refl, none))
+module _ (m : Meaning) (text : List ℕ) (count number : ℕ) (ls : List (Kind × ℕ)) (before : List ℕ)
+    (read : Lines m text ls before) (is : length ls + 2 ≡ number) (within : number < count + 2) where
+  pub wrong_none : NoEntry before → WrongNext m text count refusal.Line number
+  wrong_none none = (ls, before, read, omega arith, omega arith, inl (refl, none))
 
   pub wrong_line : (d : Draft) (k : Kind) (c : ℕ) (after : List ℕ) (r : PatternRefusal) → Drawn m ls d → c < 2 ^ 32
       → before ≡ entry_bytes k c ++ (10 ∷ after) → WrongLine m k c (vec_items d.nodes) r
-      → (f : Fault) → f.why ≡ r → f.line ≡ line_of r (done + 2) → WrongNext m text count f.why f.line
+      → (f : Fault) → f.why ≡ r → f.line ≡ line_of r number → WrongNext m text count f.why f.line
   wrong_line d k c after r drawn small stands wrong f why at_line =
       subst (λ x. WrongNext m text count x f.line) (sym why) (
         ls,
         before,
         read,
-        omega (arith, not-all),
-        at_line ∙ ap (λ n. line_of r (n + 2)) (sym is-done),
+        omega arith,
+        at_line ∙ ap (line_of r) (sym is),
         inr (k, c, after, small, stands, subst (λ xs. WrongLine m k c xs r) drawn.nodes_are wrong),
       )

@@ -1,18 +1,18 @@
 -- The tables of a draft, with one node more.
-use Rattle.std.proofs.Common.{◌≡◌, ℕ, zero, suc, ◌+◌, ◌^◌, ◌<◌, ◌≤◌, Bool, true, false, cond, ◌&&◌, ◌||◌, List, [], ◌∷◌, ◌++◌, length, Some, Ok, vec_items, vec_len, Vec, sym, refl, ap, ◌∙◌, subst, ap₂, arith, pow_mono}
+use Rattle.std.proofs.Common.{◌≡◌, ℕ, zero, suc, ◌+◌, ◌^◌, ◌<◌, ◌≤◌, Bool, true, false, cond, ◌&&◌, ◌||◌, List, [], ◌∷◌, ◌++◌, length, Some, vec_items, vec_len, Vec, sym, refl, ap, ◌∙◌, subst, ap₂, arith, pow_mono}
 use Rattle.bitsets.proofs.Sets.{or_assoc, Has_past, Decides-Has}
 use Rattle.bitsets.specs.Sets.{has}
 use Rattle.bitsets.specs.declared.SmallSet.{SmallSet}
 use Rattle.expressions.specs.Expr.{Expr, leaf, seq, alt, star, leaves}
 use Rattle.expressions.specs.Tables.{firsts, lasts, inner, holders}
 use Rattle.patterns.proofs.Standing.{inners_past, pushes_more, leaf_count_more, total_push}
-use Rattle.patterns.specs.Drafts.{total, part, laid, inners, holding, Popped, PoppedTwo, Tabled, Drafted, Grows, Added}
+use Rattle.patterns.specs.Drafts.{total, part, laid, inners, holding, Popped, PoppedTwo, Tabled, Drafted, Entered}
 use Rattle.patterns.specs.Nodes.{push, standing, takes, one_leaf, leaf_count}
 use Rattle.patterns.specs.Tables.{at}
-use Rattle.patterns.specs.declared.draft.Draft.{Draft}
-use Rattle.patterns.specs.declared.draft.Part.{Part}
 use Rattle.patterns.specs.declared.node.Node.{Node}
 use Rattle.patterns.specs.declared.node.Node.TheVariants.{Leaf, Seq, Alt, Star}
+use Rattle.patterns.specs.declared.stack.Part.{Part}
+use Rattle.patterns.specs.declared.stack.Stack.{Stack}
 use Rattle.std.proofs.lemmas.List.{get_or_past}
 use Rattle.std.specs.declared.alloc.Global.{Global}
 use lib.Bits.{bit_or, or_zero_r}
@@ -23,7 +23,7 @@ pub at_past : (v : Vec SmallSet Global) (k : ℕ) → vec_len v ≤ k → at (ve
 at_past v k h = ap (λ (s : SmallSet). s.bits) (get_or_past (vec_items v) k (record { bits = 0 }) (omega (arith, v.ok.0)))
 
 -- where the patterns that stand change and the tables' sets stay
-pub retabled : (d after : Draft) (es fs : List Expr) → Tabled es d → after.followers ≡ d.followers
+pub retabled : (d after : Stack) (es fs : List Expr) → Tabled es d → after.followers ≡ d.followers
     → after.holders ≡ d.holders → total fs ≡ total es → ((p : ℕ) → inners es p ≡ inners fs p)
     → ((a : ℕ) → holding es a ≡ holding fs a) → Tabled fs after
 retabled d after es fs t same_followers same_holders totals inner_same holding_same =
@@ -36,7 +36,7 @@ retabled d after es fs t same_followers same_holders totals inner_same holding_s
     }
 
 -- where the places of w are followed by those of m too
-pub linked : (d after : Draft) (es fs : List Expr) (w m : ℕ) → Tabled es d
+pub linked : (d after : Stack) (es fs : List Expr) (w m : ℕ) → Tabled es d
     → vec_len after.followers ≡ vec_len d.followers
     → ((k : ℕ) → k < vec_len d.followers → at (vec_items after.followers) k ≡ bit_or (at (vec_items d.followers) k) (cond (has w k) m 0))
     → after.holders ≡ d.holders → total fs ≡ total es → ((p : ℕ) → bit_or (inners es p) (cond (has w p) m 0) ≡ inners fs p)
@@ -73,7 +73,7 @@ none_past s n a m small far = go (has s a) refl
     go false e = refl
 
 -- a leaf with the letters s, at the next place
-pub leafed : (d after : Draft) (es : List Expr) (s : ℕ) (x : SmallSet) → Tabled es d → total es < 63 → x.bits ≡ 0
+pub leafed : (d after : Stack) (es : List Expr) (s : ℕ) (x : SmallSet) → Tabled es d → total es < 63 → x.bits ≡ 0
     → vec_items after.followers ≡ vec_items d.followers ++ (x ∷ []) → vec_len after.followers ≡ vec_len d.followers + 1
     → vec_len after.holders ≡ vec_len d.holders → s < 2 ^ vec_len d.holders
     → ((a : ℕ) → a < vec_len d.holders → at (vec_items after.holders) a ≡ bit_or (at (vec_items d.holders) a) (cond (has s a) (2 ^ (total es + 1)) 0))
@@ -115,30 +115,31 @@ part_is p q first last nullable_same =
     ∙ ap (λ b. let r : Part = record { first = q.first; last = q.last; nullable = b } in r) nullable_same
 
 -- the new pattern, once its tables and its part are known
-module _ (d after : Draft) (drafted : Drafted d) (nodes : after.nodes ≡ d.nodes) where
-  grows : (x : Node) (p : Part) (e : Expr) (st : List Expr) → one_leaf x + leaf_count (vec_items d.nodes) ≤ 63
-      → takes x ≤ length (standing (vec_items d.nodes)) → push x (standing (vec_items d.nodes)) ≡ e ∷ st
+module _ (d after : Stack) (nodes : List Node) (drafted : Drafted nodes d) where
+  grows : (x : Node) (p : Part) (e : Expr) (st : List Expr) → one_leaf x + leaf_count nodes ≤ 63
+      → takes x ≤ length (standing nodes) → push x (standing nodes) ≡ e ∷ st
       → vec_items after.parts ≡ laid st → p ≡ part (total st) e → Tabled (e ∷ st) after
-      → vec_len after.holders ≡ vec_len d.holders → Grows d x (Ok p) after
-  grows x p e st room operands pushed parts made tabled letters = (
-    e,
-    st,
-    pushed,
-    record { parts = parts; made = made; tabled = tabled; nodes = nodes; letters = letters },
-    record { leaves = room; operands = operands },
-  )
+      → vec_len after.holders ≡ vec_len d.holders → Entered x d nodes p after
+  grows x p e st room operands pushed parts made tabled letters =
+      record {
+        made = e;
+        others = st;
+        pushed = pushed;
+        grown = record { parts = parts; made = made; tabled = tabled; letters = letters };
+        allowed = record { leaves = room; operands = operands };
+      }
 
-  few_leaves : leaf_count (vec_items d.nodes) ≤ 63
+  few_leaves : leaf_count nodes ≤ 63
   few_leaves = omega (arith, drafted.count, drafted.tabled.few)
 
   -- a pattern without places
   pub none_grows : (x : Node) (e : Expr) (p : Part) → one_leaf x ≡ 0 → takes x ≡ 0
-      → push x (standing (vec_items d.nodes)) ≡ e ∷ standing (vec_items d.nodes) → leaves e ≡ 0
+      → push x (standing nodes) ≡ e ∷ standing nodes → leaves e ≡ 0
       → ((k q : ℕ) → inner k e q ≡ 0) → ((k a : ℕ) → holders k e a ≡ 0)
       → ((k : ℕ) → p ≡ part k e) → after.parts ≡ d.parts → after.followers ≡ d.followers → after.holders ≡ d.holders
-      → Grows d x (Ok p) after
+      → Entered x d nodes p after
   none_grows x e p no_leaf no_operand pushed no_leaves no_inner no_holder made same_parts same_followers same_holders =
-      let st = standing (vec_items d.nodes) in
+      let st = standing nodes in
       grows x p e st (omega (arith, few_leaves)) (omega arith) pushed (ap vec_items same_parts ∙ drafted.parts) (made (total st))
       (retabled d after st (e ∷ st) drafted.tabled same_followers same_holders (omega arith)
       (λ q. sym (or_zero_r (inners st q)) ∙ ap (bit_or (inners st q)) (sym (no_inner (total st) q)))
@@ -150,9 +151,9 @@ module _ (d after : Draft) (drafted : Drafted d) (nodes : after.nodes ≡ d.node
       → vec_len after.holders ≡ vec_len d.holders → s.bits < 2 ^ vec_len d.holders
       → ((a : ℕ) → a < vec_len d.holders → at (vec_items after.holders) a ≡ bit_or (at (vec_items d.holders) a) (cond (has s.bits a) (2 ^ vec_len d.followers) 0))
       → p.first.bits ≡ 2 ^ vec_len d.followers → p.last.bits ≡ 2 ^ vec_len d.followers → p.nullable ≡ false
-      → Grows d (Leaf s) (Ok p) after
+      → Entered (Leaf s) d nodes p after
   leaf_grows s x p room same_parts none pushed len letters small enters first last not_nullable =
-      let st = standing (vec_items d.nodes) in
+      let st = standing nodes in
       let place = drafted.tabled.places in
       grows (Leaf s) p (leaf s.bits) st (omega (arith, drafted.count, place)) (omega arith) refl (ap vec_items same_parts ∙ drafted.parts)
       (part_is p (part (total st) (leaf s.bits)) (first ∙ ap (λ n. 2 ^ n) place) (last ∙ ap (λ n. 2 ^ n) place) not_nullable)
@@ -165,9 +166,9 @@ module _ (d after : Draft) (drafted : Drafted d) (nodes : after.nodes ≡ d.node
         → ((es : List Expr) → vec_items d.parts ≡ laid es → Popped es (Some a) (vec_items after.parts))
         → vec_len after.followers ≡ vec_len d.followers
         → ((k : ℕ) → k < vec_len d.followers → at (vec_items after.followers) k ≡ bit_or (at (vec_items d.followers) k) (cond (has a.last.bits k) a.first.bits 0))
-        → p.first.bits ≡ a.first.bits → p.last.bits ≡ a.last.bits → p.nullable ≡ true → Grows d Star (Ok p) after
+        → p.first.bits ≡ a.first.bits → p.last.bits ≡ a.last.bits → p.nullable ≡ true → Entered Star d nodes p after
     star_grows a p popped len links first last always =
-        let t = one_stands (standing (vec_items d.nodes)) a (vec_items after.parts) (popped (standing (vec_items d.nodes)) drafted.parts) in
+        let t = one_stands (standing nodes) a (vec_items after.parts) (popped (standing nodes) drafted.parts) in
         let e = t.0 in
         let st = t.1 in
         grows Star p (star e) st (omega (arith, few_leaves)) (subst (λ es. 1 ≤ length es) (sym t.2) (omega arith)) (ap (push Star) t.2) t.4
@@ -181,9 +182,9 @@ module _ (d after : Draft) (drafted : Drafted d) (nodes : after.nodes ≡ d.node
     module _ (a b p : Part)
         (popped : (es : List Expr) → vec_items d.parts ≡ laid es → PoppedTwo es (Some (a, b)) (vec_items after.parts)) where
       pub alt_grows : after.followers ≡ d.followers → p.first.bits ≡ bit_or a.first.bits b.first.bits
-          → p.last.bits ≡ bit_or a.last.bits b.last.bits → p.nullable ≡ (a.nullable || b.nullable) → Grows d Alt (Ok p) after
+          → p.last.bits ≡ bit_or a.last.bits b.last.bits → p.nullable ≡ (a.nullable || b.nullable) → Entered Alt d nodes p after
       alt_grows same_followers first last nullable_is =
-          let t = two_stand (standing (vec_items d.nodes)) a b (vec_items after.parts) (popped (standing (vec_items d.nodes)) drafted.parts) in
+          let t = two_stand (standing nodes) a b (vec_items after.parts) (popped (standing nodes) drafted.parts) in
           let e = t.0 in
           let f = t.1 in
           let st = t.2 in
@@ -201,9 +202,9 @@ module _ (d after : Draft) (drafted : Drafted d) (nodes : after.nodes ≡ d.node
           → ((k : ℕ) → k < vec_len d.followers → at (vec_items after.followers) k ≡ bit_or (at (vec_items d.followers) k) (cond (has a.last.bits k) b.first.bits 0))
           → p.first.bits ≡ bit_or a.first.bits (cond a.nullable b.first.bits 0)
           → p.last.bits ≡ bit_or (cond b.nullable a.last.bits 0) b.last.bits → p.nullable ≡ (a.nullable && b.nullable)
-          → Grows d Seq (Ok p) after
+          → Entered Seq d nodes p after
       seq_grows len links first last nullable_is =
-          let t = two_stand (standing (vec_items d.nodes)) a b (vec_items after.parts) (popped (standing (vec_items d.nodes)) drafted.parts) in
+          let t = two_stand (standing nodes) a b (vec_items after.parts) (popped (standing nodes) drafted.parts) in
           let e = t.0 in
           let f = t.1 in
           let st = t.2 in
@@ -220,28 +221,17 @@ module _ (d after : Draft) (drafted : Drafted d) (nodes : after.nodes ≡ d.node
           (ap vec_len same_holders)
 
 -- the new pattern stands with the others, and its node with the other nodes
-pub added : (d mid after : Draft) (x : Node) (p : Part) → Drafted d → Grows d x (Ok p) mid
-    → vec_items after.nodes ≡ vec_items mid.nodes ++ (x ∷ []) → vec_items after.parts ≡ vec_items mid.parts ++ (p ∷ [])
-    → after.followers ≡ mid.followers → after.holders ≡ mid.holders → Added d x after
-added d mid after x p drafted g nodes_pushed parts_pushed same_followers same_holders =
-    let xs = vec_items d.nodes in
-    let e = g.0 in
-    let st = g.1 in
-    let grown = g.3 in
-    let nodes = nodes_pushed ∙ ap (λ v. vec_items v ++ (x ∷ [])) grown.nodes in
-    let stand = ap standing nodes ∙ pushes_more [] xs x ∙ g.2 in
+pub added : (d mid after : Stack) (nodes : List Node) (x : Node) (p : Part) → Drafted nodes d → Entered x d nodes p mid
+    → vec_items after.parts ≡ vec_items mid.parts ++ (p ∷ []) → after.followers ≡ mid.followers → after.holders ≡ mid.holders
+    → Drafted (nodes ++ (x ∷ [])) after
+added d mid after nodes x p drafted g parts_pushed same_followers same_holders =
+    let stand = pushes_more [] nodes x ∙ g.pushed in
     record {
-      nodes = nodes;
-      drafted =
-          record {
-            parts = parts_pushed ∙ ap₂ (λ l (q : Part). l ++ (q ∷ [])) grown.parts grown.made ∙ ap laid (sym stand);
-            count =
-                ap leaf_count nodes ∙ leaf_count_more xs x ∙ ap (λ n. one_leaf x + n) drafted.count
-                ∙ sym (total_push x (standing xs) g.4.operands) ∙ ap total (g.2 ∙ sym stand);
-            tabled =
-                subst (λ es. Tabled es after) (sym stand)
-                (retabled mid after (e ∷ st) (e ∷ st) grown.tabled same_followers same_holders refl (λ _. refl) (λ _. refl));
-          };
-      letters = ap vec_len same_holders ∙ grown.letters;
-      allowed = g.4;
+      parts = parts_pushed ∙ ap₂ (λ l (q : Part). l ++ (q ∷ [])) g.grown.parts g.grown.made ∙ ap laid (sym stand);
+      count =
+          leaf_count_more nodes x ∙ ap (λ n. one_leaf x + n) drafted.count
+          ∙ sym (total_push x (standing nodes) g.allowed.operands) ∙ ap total (g.pushed ∙ sym stand);
+      tabled =
+          subst (λ es. Tabled es after) (sym stand)
+          (retabled mid after (g.made ∷ g.others) (g.made ∷ g.others) g.grown.tabled same_followers same_holders refl (λ _. refl) (λ _. refl));
     }

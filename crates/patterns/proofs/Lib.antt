@@ -2,6 +2,7 @@ pub mod Accepted
 mod Bodies
 pub mod Determined
 mod Drafts
+mod Exits
 mod Fronts
 mod Grows
 mod Openings

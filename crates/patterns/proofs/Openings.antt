@@ -1,10 +1,11 @@
 -- The first line of a pattern text, as its fields were read.
-use Rattle.std.proofs.Common.{◌≡◌, ℕ, ◌^◌, ◌<◌, List, ◌∷◌, ◌++◌, sym, ◌∙◌}
+use Rattle.std.proofs.Common.{◌≡◌, ℕ, ◌^◌, ◌<◌, List, ◌∷◌, ◌++◌, Option, Some, sym, subst, ◌∙◌}
 use Rattle.notation.proofs.Notation.{header_Parts, header_split, header_joined}
-use Rattle.notation.specs.Notation.{header_bytes, header_fields}
+use Rattle.notation.specs.Notation.{Heads, header_bytes, header_fields}
+use Rattle.notation.specs.declared.heads.Header.{Header}
 use Rattle.patterns.proofs.Fronts.{no_line, line_fields, line_stands}
 use Rattle.patterns.specs.Texts.{NoHeader}
-use Rattle.texts.specs.Lines.{Gave, rest, line_bytes, fields_left}
+use Rattle.texts.specs.Lines.{Gave, NextLine, rest, line_bytes, fields_left}
 use Rattle.texts.specs.Parts.{Lacks}
 use Rattle.texts.specs.declared.lines.Cursor.{Cursor}
 use Rattle.texts.specs.declared.lines.Line.{Line}
@@ -22,3 +23,13 @@ pub header_stands : (before after : Cursor) (l : Line) (n m : ℕ) → Gave befo
     → rest before ≡ header_bytes n m ++ (10 ∷ rest after)
 header_stands before after l n m gave e =
     line_stands before after l (header_bytes n m) gave (header_joined (line_bytes l) n m (sym gave.fresh ∙ e))
+
+-- the first line, as the cursor gave it and its fields were read, stands there
+pub first_stands : (before after : Cursor) (line : Line) (first : Header) (o : Option Line) (h : Option Header)
+    → NextLine before o after → o ≡ Some line → Heads (fields_left line) h → h ≡ Some first → (n : ℕ) → first.letters ≡ n
+    → rest before ≡ header_bytes n first.nodes ++ (10 ∷ rest after)
+first_stands before after line first o h next is_line heads is_first n letters =
+    subst (λ k. rest before ≡ header_bytes k first.nodes ++ (10 ∷ rest after)) letters
+    (header_stands before after line first.letters first.nodes
+    (subst (λ x. NextLine before x after) is_line next)
+    (subst (λ x. Heads (fields_left line) x) is_first heads))

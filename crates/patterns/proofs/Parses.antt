@@ -1,5 +1,5 @@
 -- From the steps of reading to what is said of the whole text.
-use Rattle.std.proofs.Common.{◌≡◌, ℕ, ◌+◌, ◌-◌, ◌^◌, ◌<◌, ◌≤◌, List, [], ◌∷◌, ◌++◌, length, get_or, take, sym, refl, ap, ◌∙◌, subst, inl, inr, arith}
+use Rattle.std.proofs.Common.{◌≡◌, ℕ, ◌+◌, ◌-◌, ◌^◌, ◌<◌, ◌≤◌, List, [], ◌∷◌, ◌++◌, length, get_or, take, Ok, Err, Result, sym, refl, ap, ◌∙◌, subst, inl, inr, arith}
 use Rattle.alphabets.specs.Meaning.{Meaning, Sound}
 use Rattle.expressions.specs.Expr.{Expr}
 use Rattle.expressions.specs.Sessions.{Session}
@@ -9,16 +9,19 @@ use Rattle.notation.specs.declared.kinds.Kind.{Kind}
 use Rattle.notation.specs.declared.kinds.Kind.TheVariants as kind
 use Rattle.patterns.proofs.Standing.{pushes_more}
 use Rattle.patterns.specs.Nodes.{push, standing, takes, expression}
-use Rattle.patterns.specs.Patterns.{nodes_of, expr_of}
-use Rattle.patterns.specs.Reading.{RefusesText, Accepts, Comes}
+use Rattle.patterns.specs.Patterns.{nodes_of, expr_of, Finished}
+use Rattle.patterns.specs.Reading.{RefusesText, Accepts, Comes, Parses}
 use Rattle.patterns.specs.Reads.{Lines, WrongLine, WrongNext, line_of}
 use Rattle.patterns.specs.Texts.{node_of, nodes, Lawful, IsText, TextSession, Begins}
 use Rattle.patterns.specs.declared.node.Node.{Node}
 use Rattle.patterns.specs.declared.node.Node.TheVariants.{Never, Empty, Leaf, Seq, Alt, Star}
 use Rattle.patterns.specs.declared.pattern.Pattern.{Pattern}
+use Rattle.patterns.specs.declared.refusal.Fault.{Fault}
 use Rattle.patterns.specs.declared.refusal.PatternRefusal.{PatternRefusal}
 use Rattle.patterns.specs.declared.refusal.PatternRefusal.TheVariants as refusal
 use Rattle.std.proofs.lemmas.List.{append-nil, take_all, take_more, map_push}
+use Rattle.std.proofs.lemmas.Result.{err_from_is_err_and}
+use Rattle.std.specs.Result.{MatchResult, IsErrAnd}
 
 -- a node that finds what it takes stands afterwards
 push_some : (x : Node) (es : List Expr) → takes x ≤ length es → 1 ≤ length (push x es)
@@ -131,3 +134,18 @@ module _ (m : Meaning) (sound : Sound m) (text : List ℕ) (count : ℕ) (short 
             let few_t : length t.0 < 2 ^ 64 = omega (arith, t.1.few) in
             let same = written_unique m.n m.n t.0 ls n_small n_small few_t few_ls t.1.coded read.coded (sym t.1.whole ∙ is_text.whole) in
             subst (λ e. Session e w) (ap (λ x. expression (nodes m x)) same.1 ∙ sym (ap expression nodes_are)) t.2
+
+    -- whatever is finished of the lines, with its refusal at the last of them
+    pub closes : (xs : List Node) (n : ℕ) → xs ≡ nodes m ls → n ≡ m.n → (r : Result Pattern PatternRefusal) (s : Result Pattern Fault)
+        (Q : PatternRefusal → Fault → Type 0) → Finished xs n r → MatchResult r (λ p. s ≡ Ok p) (λ e. IsErrAnd s (Q e))
+        → ((e : PatternRefusal) (f : Fault) → Q e f → (f.why ≡ e) × (f.line ≡ count + 1)) → Parses m text s
+    closes xs n nodes_are letters (Ok p) s Q made is tells =
+        subst (λ t. Parses m text t) (sym is)
+        (accepted p (made.0 ∙ letters) (made.1 ∙ nodes_are) (ap (λ ys. length (standing ys)) (sym nodes_are) ∙ made.2))
+    closes xs n nodes_are letters (Err e) s Q refused is tells =
+        let x = err_from_is_err_and s is in
+        let told = tells e x.0 x.2 in
+        subst (λ t. Parses m text t) (sym x.1)
+        (subst (λ why. RefusesText m text why x.0.line) (sym (told.0 ∙ refused.0))
+        (subst (λ line. RefusesText m text refusal.Left line) (sym told.1)
+        (left_over (λ one. refused.1 (ap (λ ys. length (standing ys)) nodes_are ∙ one)))))

@@ -14,8 +14,9 @@ use Rattle.patterns.proofs.Grows.{at_past}
 use Rattle.patterns.specs.Drafts.{part, laid, Tabled, Drafted}
 use Rattle.patterns.specs.Nodes.{top, standing, expression}
 use Rattle.patterns.specs.Tables.{at}
-use Rattle.patterns.specs.declared.draft.Draft.{Draft}
-use Rattle.patterns.specs.declared.draft.Part.{Part}
+use Rattle.patterns.specs.declared.node.Node.{Node}
+use Rattle.patterns.specs.declared.stack.Part.{Part}
+use Rattle.patterns.specs.declared.stack.Stack.{Stack}
 use Rattle.std.proofs.lemmas.List.{get_or_read}
 use Rattle.std.proofs.lemmas.Bool.Decides.{Decides-at, Decides-like, Decides-eqb, same_from_decides}
 use Rattle.std.specs.declared.alloc.Global.{Global}
@@ -79,11 +80,11 @@ module _ (e : Expr) (s m : ℕ) (r : Bool) (meets : m ≡ bit_and s (endings e))
       Decides-like (not r) both.0 both.1 (ends_Session w v t to_t to_s)
 
 -- one part is laid where one pattern stands
-pub one_laid : (es : List Expr) (x : Part) → length (laid es) ≡ 1 → x ≡ get_or (laid es) 0 x
+pub one_laid : (es : List Expr) (x z : Part) → length (laid es) ≡ 1 → x ≡ get_or (laid es) 0 z
     → (e : Expr) × (es ≡ e ∷ []) × (x ≡ part 0 e)
-one_laid [] x h is = absurd (omega arith)
-one_laid (e ∷ []) x h is = (e, refl, is)
-one_laid (e ∷ (f ∷ es)) x h is = absurd (omega (arith, length-laid (e ∷ (f ∷ es))))
+one_laid [] x z h is = absurd (omega arith)
+one_laid (e ∷ []) x z h is = (e, refl, is)
+one_laid (e ∷ (f ∷ es)) x z h is = absurd (omega (arith, length-laid (e ∷ (f ∷ es))))
 
 -- the start is followed by the first places
 first_row : (e : Expr) (xs : List SmallSet) (x : SmallSet) → 0 < length xs → ((p : ℕ) → at xs p ≡ inner 0 e p)
@@ -97,20 +98,20 @@ first_row e (y ∷ xs) x h follows is (suc p) =
     later k = search rules
 
 -- what the tables of a finished draft say
-module _ (d : Draft) (t : Drafted d) (whole : Part) (one : length (vec_items d.parts) ≡ 1) (is_whole : whole ≡ get_or (vec_items d.parts) 0 whole) where
+module _ (nodes : List Node) (d : Stack) (t : Drafted nodes d) (whole z : Part) (one : length (vec_items d.parts) ≡ 1) (is_whole : whole ≡ get_or (vec_items d.parts) 0 z) where
   abbrev e : Expr
-  e = expression (vec_items d.nodes)
+  e = expression nodes
 
-  stands : (standing (vec_items d.nodes) ≡ e ∷ []) × (whole ≡ part 0 e)
+  stands : (standing nodes ≡ e ∷ []) × (whole ≡ part 0 e)
   stands =
-      let got = one_laid (standing (vec_items d.nodes)) whole (ap length (sym t.parts) ∙ one) (is_whole ∙ ap (λ xs. get_or xs 0 whole) t.parts) in
+      let got = one_laid (standing nodes) whole z (ap length (sym t.parts) ∙ one) (is_whole ∙ ap (λ xs. get_or xs 0 z) t.parts) in
       let is-e : got.0 ≡ e = ap top (sym got.1) in
       (got.1 ∙ ap (λ x. x ∷ []) is-e, got.2 ∙ ap (part 0) is-e)
 
   tabled : Tabled (e ∷ []) d
   tabled = subst (λ es. Tabled es d) stands.0 t.tabled
 
-  pub one_stands_so : length (standing (vec_items d.nodes)) ≡ 1
+  pub one_stands_so : length (standing nodes) ≡ 1
   one_stands_so = ap length stands.0
 
   pub room_so : vec_len d.followers ≤ 64

@@ -1,15 +1,15 @@
--- What a draft knows of the patterns that stand after its nodes.
+-- What is known of the patterns that stand after some nodes.
 use Rattle.std.specs.Prelude.{◌≡◌, ℕ, ◌+◌, ◌^◌, ◌<◌, ◌≤◌, List, [], ◌∷◌, ◌++◌, Some, None, Ok, Err, vec_items, vec_len, Option, Result, bit_or}
 use Rattle.expressions.specs.Expr.{Expr, nullable, leaves}
 use Rattle.expressions.specs.Tables.{firsts, lasts, inner, holders}
 use Rattle.patterns.specs.Nodes.{push, standing, leaf_count}
 use Rattle.patterns.specs.Rules.{Follows, Refuses}
 use Rattle.patterns.specs.Tables.{at}
-use Rattle.patterns.specs.declared.draft.Draft.{Draft}
-use Rattle.patterns.specs.declared.draft.Part.{Part}
 use Rattle.patterns.specs.declared.node.Node.{Node}
 use Rattle.patterns.specs.declared.node.Node.TheVariants.{Never, Empty, Leaf, Seq, Alt, Star}
 use Rattle.patterns.specs.declared.refusal.PatternRefusal.{PatternRefusal}
+use Rattle.patterns.specs.declared.stack.Part.{Part}
+use Rattle.patterns.specs.declared.stack.Stack.{Stack}
 
 -- how many leaves the patterns that stand have together
 abbrev pub total : List Expr → ℕ
@@ -37,18 +37,18 @@ holding [] a = 0
 holding (e ∷ es) a = bit_or (holding es a) (holders (total es) e a)
 
 -- the tables are those of the patterns that stand
-pub record Tabled (es : List Expr) (d : Draft) : Type 0 where
+pub record Tabled (es : List Expr) (s : Stack) : Type 0 where
   pub few : total es ≤ 63
-  pub places : vec_len d.followers ≡ total es + 1
-  pub follows : (p : ℕ) → at (vec_items d.followers) p ≡ inners es p
-  pub letters : vec_len d.holders ≤ 16
-  pub holds : (a : ℕ) → at (vec_items d.holders) a ≡ holding es a
+  pub places : vec_len s.followers ≡ total es + 1
+  pub follows : (p : ℕ) → at (vec_items s.followers) p ≡ inners es p
+  pub letters : vec_len s.holders ≤ 16
+  pub holds : (a : ℕ) → at (vec_items s.holders) a ≡ holding es a
 
--- the draft's parts and tables are those of its nodes
-pub record Drafted (d : Draft) : Type 0 where
-  pub parts : vec_items d.parts ≡ laid (standing (vec_items d.nodes))
-  pub count : leaf_count (vec_items d.nodes) ≡ total (standing (vec_items d.nodes))
-  pub tabled : Tabled (standing (vec_items d.nodes)) d
+-- the parts and the tables are those of the nodes
+pub record Drafted (nodes : List Node) (s : Stack) : Type 0 where
+  pub parts : vec_items s.parts ≡ laid (standing nodes)
+  pub count : leaf_count nodes ≡ total (standing nodes)
+  pub tabled : Tabled (standing nodes) s
 
 -- the last pattern that stands is taken off
 abbrev pub Popped : List Expr → Option Part → List Part → Type 0
@@ -61,12 +61,11 @@ PoppedTwo [] r xs = r ≡ None
 PoppedTwo (f ∷ []) r xs = r ≡ None
 PoppedTwo (f ∷ (e ∷ es)) r xs = (r ≡ Some (part (total es) e, part (total es + leaves e) f)) × (xs ≡ laid es)
 
--- the draft has the tables of e and of the patterns es before it, the parts of es alone, and p is the part of e
-pub record Grown (before : Draft) (e : Expr) (es : List Expr) (p : Part) (after : Draft) : Type 0 where
+-- the stack has the tables of e and of the patterns es before it, the parts of es alone, and p is the part of e
+pub record Grown (before : Stack) (e : Expr) (es : List Expr) (p : Part) (after : Stack) : Type 0 where
   pub parts : vec_items after.parts ≡ laid es
   pub made : p ≡ part (total es) e
   pub tabled : Tabled (e ∷ es) after
-  pub nodes : after.nodes ≡ before.nodes
   pub letters : vec_len after.holders ≡ vec_len before.holders
 
 -- a leaf has only letters below n
@@ -78,21 +77,23 @@ Within n Seq = Unit {0}
 Within n Alt = Unit {0}
 Within n Star = Unit {0}
 
--- the node was entered into the tables, and p is the part of the pattern that it makes; or it is refused
-abbrev pub Grows : Draft → Node → Result Part PatternRefusal → Draft → Type 0
-Grows before x (Ok p) after =
-    (e : Expr) × (es : List Expr) × (push x (standing (vec_items before.nodes)) ≡ e ∷ es) × Grown before e es p after
-    × Follows (vec_items before.nodes) x
-Grows before x (Err r) after = Refuses (vec_items before.nodes) x r
+-- the node was entered into the tables, and p is the part of the pattern that it makes
+pub record Entered (x : Node) (before : Stack) (nodes : List Node) (p : Part) (after : Stack) : Type 0 where
+  pub made : Expr
+  pub others : List Expr
+  pub pushed : push x (standing nodes) ≡ made ∷ others
+  pub grown : Grown before made others p after
+  pub allowed : Follows nodes x
 
--- the draft has one node more
-pub record Added (before : Draft) (x : Node) (after : Draft) : Type 0 where
-  pub nodes : vec_items after.nodes ≡ vec_items before.nodes ++ (x ∷ [])
-  pub drafted : Drafted after
-  pub letters : vec_len after.holders ≡ vec_len before.holders
-  pub allowed : Follows (vec_items before.nodes) x
+-- whatever the nodes before it, the node was entered, or it is refused
+abbrev pub Grows : Node → Stack → Result Part PatternRefusal → Stack → Type 0
+Grows x before (Ok p) after =
+    (nodes : List Node) → Drafted nodes before → Within (vec_len before.holders) x → Entered x before nodes p after
+Grows x before (Err r) after = (nodes : List Node) → Drafted nodes before → Refuses nodes x r
 
--- the node was added, or it is refused
-abbrev pub Pushes : Draft → Node → Result Unit PatternRefusal → Draft → Type 0
-Pushes before x (Ok u) after = Added before x after
-Pushes before x (Err r) after = Refuses (vec_items before.nodes) x r
+-- whatever the nodes before it, the stack is that of the nodes with this one more, or the node is refused
+abbrev pub Enters : Node → Stack → Result Unit PatternRefusal → Stack → Type 0
+Enters x before (Ok u) after =
+    (nodes : List Node) → Drafted nodes before → Within (vec_len before.holders) x
+    → Drafted (nodes ++ (x ∷ [])) after × (vec_len after.holders ≡ vec_len before.holders) × Follows nodes x
+Enters x before (Err r) after = (nodes : List Node) → Drafted nodes before → Refuses nodes x r

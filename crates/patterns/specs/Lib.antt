@@ -2,6 +2,7 @@ pub mod Determined
 pub mod Drafts
 pub mod Nodes
 pub mod Patterns
+pub mod Pushes
 pub mod Reading
 pub mod Reads
 pub mod Refusals

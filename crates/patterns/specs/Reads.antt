@@ -3,7 +3,7 @@ use Rattle.std.specs.Prelude.{◌≡◌, ℕ, ◌+◌, ◌^◌, ◌<◌, ◌≤�
 use Rattle.alphabets.specs.Meaning.{Meaning}
 use Rattle.notation.specs.Notation.{header_bytes, entry_bytes, lines, Coded}
 use Rattle.notation.specs.declared.kinds.Kind.{Kind}
-use Rattle.patterns.specs.Drafts.{Drafted, Added}
+use Rattle.patterns.specs.Pushes.{Added}
 use Rattle.patterns.specs.Reading.{FirstLine}
 use Rattle.patterns.specs.Rules.{Refuses}
 use Rattle.patterns.specs.Texts.{node_of, nodes, Suits, Lawful, NoHeader, NoEntry}
@@ -50,9 +50,9 @@ WrongLine m k c xs Left = ⊥
 WrongLine m k c xs Memory = Unit {0}
 
 -- the line's node was added to the draft, or the line is refused
-abbrev pub Adds : Meaning → Kind → ℕ → Draft → Result Unit PatternRefusal → Draft → Type 0
-Adds m k c before (Ok u) after = Suits m k c × Added before (node_of m k c) after
-Adds m k c before (Err r) after = WrongLine m k c (vec_items before.nodes) r
+abbrev pub Adds : Meaning → Kind → ℕ → Draft → Result Draft PatternRefusal → Type 0
+Adds m k c before (Ok after) = Suits m k c × Added before (node_of m k c) after
+Adds m k c before (Err r) = WrongLine m k c (vec_items before.nodes) r
 
 -- the text begins with the lines ls, all lawful, and `rest` follows
 pub record Lines (m : Meaning) (text : List ℕ) (ls : List (Kind × ℕ)) (rest : List ℕ) : Type 0 where
@@ -63,8 +63,7 @@ pub record Lines (m : Meaning) (text : List ℕ) (ls : List (Kind × ℕ)) (rest
 -- these lines are in the draft
 pub record Drawn (m : Meaning) (ls : List (Kind × ℕ)) (d : Draft) : Type 0 where
   pub nodes_are : vec_items d.nodes ≡ nodes m ls
-  pub drafted : Drafted d
-  pub letters : vec_len d.holders ≡ m.n
+  pub letters : vec_len d.stack.holders ≡ m.n
 
 -- the line of a refusal; want of memory is at no line
 abbrev pub line_of : PatternRefusal → ℕ → ℕ
@@ -87,6 +86,6 @@ WrongNext m text count r line =
     ⊎ ((k : Kind) × (c : ℕ) × (after : List ℕ) × (c < 2 ^ 32) × (rest ≡ entry_bytes k c ++ (10 ∷ after)) × WrongLine m k c (nodes m ls) r))
 
 -- all `count` lines are in the draft and `after` follows them, or one is wrong
-abbrev pub Draws : Meaning → List ℕ → ℕ → Result Unit Fault → List ℕ → Draft → Type 0
-Draws m text count (Ok u) after d = (ls : List (Kind × ℕ)) × Lines m text ls after × Drawn m ls d × (length ls ≡ count)
-Draws m text count (Err f) after d = WrongNext m text count f.why f.line
+abbrev pub Draws : Meaning → List ℕ → ℕ → Result Draft Fault → List ℕ → Type 0
+Draws m text count (Ok d) after = (ls : List (Kind × ℕ)) × Lines m text ls after × Drawn m ls d × (length ls ≡ count)
+Draws m text count (Err f) after = WrongNext m text count f.why f.line

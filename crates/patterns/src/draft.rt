@@ -1,199 +1,46 @@
-// A pattern while its nodes come in: the tables grow with each node, and no node is looked at twice.
-ghost use Rattle.std.specs.Prelude.{◌≡◌, ℕ, ◌+◌, ◌^◌, ◌<◌, ◌≤◌, List, [], IfOk, if◌then◌else◌, vec_len, bit_or};
-ghost use Rattle.bitsets.specs.Sets.{has};
-ghost use Rattle.expressions.specs.Expr.{Expr};
-ghost use Rattle.patterns.specs.Drafts.{Drafted, Grows, Pushes, Popped, PoppedTwo, Within, laid};
-ghost use Rattle.patterns.specs.Tables.{at};
-ghost use Rattle.patterns.specs.declared.node.Node.TheVariants.{Leaf, Seq, Alt, Star};
+// A pattern while its nodes come in.
+ghost use Rattle.std.specs.Prelude.{◌≡◌, ◌≤◌, vec_len};
+ghost use Rattle.patterns.specs.Drafts.{Drafted, Within};
 
 use crate::node::Node;
 use crate::refusal::PatternRefusal;
-use bitsets::SmallSet;
+use crate::stack::Stack;
 use std::alloc::{AllocError, Global};
 
-// A pattern has at most this many leaves, so that its places, the start among them, fit a set.
-const MOST_LEAVES: usize = 63;
-
-// What the tables have to know of a pattern that stands finished before the next node.
-#[derive(Clone, Copy)]
-pub(crate) struct Part {
-    pub first: SmallSet,
-    pub last: SmallSet,
-    pub nullable: bool,
-}
-
-// The nodes so far, the patterns that stand, and the tables over the places of all of them:
-// the followers of each place, and for each letter the places whose leaf holds it.
+// The nodes so far, and what stands after them.
 #[derive(Drop)]
 pub(crate) struct Draft {
     pub nodes: Vec<Node>,
-    pub parts: Vec<Part>,
-    pub followers: Vec<SmallSet>,
-    pub holders: Vec<SmallSet>,
+    pub stack: Stack,
+    ghost drafted: { Drafted nodes.items stack },
 }
 
 impl Draft {
+    ghost use Rattle.std.specs.Prelude.{[], IfOk};
+    ghost use Rattle.patterns.specs.Pushes.{Pushes};
+
     // No node yet, over so many letters.
     pub(crate) fn new(heap: Global, letters: u8) -> Result<Draft, AllocError>
         requires { letters ≤ 16 }
-        ensures { IfOk result (λ d. Drafted d × (d.nodes.items ≡ []) × (vec_len d.holders ≡ letters)) }
+        ensures { IfOk result (λ d. (d.nodes.items ≡ []) × (vec_len d.stack.holders ≡ letters)) }
     {
-        let mut followers = Vec::new(heap);
-        followers.push(SmallSet::empty())?;
-        let holders = vec![in heap; SmallSet::empty(); letters as usize]?;
         Ok(Draft {
             nodes: Vec::new(heap),
-            parts: Vec::new(heap),
-            followers,
-            holders,
+            stack: Stack::new(heap, letters)?,
         })
     }
 
-    // One node more, or why it is refused; a refused draft is of no use any more.
-    pub(crate) fn push(&mut self, node: Node) -> Result<(), PatternRefusal>
-        requires drafted { Drafted self.old }
-        requires within { Within (vec_len self.old.holders) node }
-        ensures { Pushes self.old node result self.new }
+    // One node more, or why it is refused.
+    pub(crate) fn with(self, node: Node) -> Result<Draft, PatternRefusal>
+        requires { Within (vec_len self.stack.holders) node }
+        ensures { Pushes self node result }
     {
-        let part = self.grow(node)?;
-        self.parts.push(part)?;
-        self.nodes.push(node)?;
-        Ok(())
-    }
-
-    // Enters a node into the tables, and gives what is known of the pattern that it makes.
-    fn grow(&mut self, node: Node) -> Result<Part, PatternRefusal>
-        requires drafted { Drafted self.old }
-        requires within { Within (vec_len self.old.holders) node }
-        ensures { Grows self.old node result self.new }
-    {
-        match node {
-            Node::Never => Ok(placeless(false)),
-            Node::Empty => Ok(placeless(true)),
-            Node::Leaf(letters) => self.leaf(letters),
-            Node::Seq => self.seq(),
-            Node::Alt => self.alt(),
-            Node::Star => self.star(),
-        }
-    }
-
-    // One place more.
-    fn leaf(&mut self, letters: SmallSet) -> Result<Part, PatternRefusal>
-        requires drafted { Drafted self.old }
-        requires within { letters.bits < 2 ^ vec_len self.old.holders }
-        ensures { Grows self.old (Leaf letters) result self.new }
-    {
-        let place = self.followers.len();
-        if place > MOST_LEAVES {
-            return Err(PatternRefusal::Leaves);
-        }
-        self.followers.push(SmallSet::empty())?;
-        let here = SmallSet::only(place as u8);
-        unite_at(&mut self.holders, letters, here);
-        Ok(Part {
-            first: here,
-            last: here,
-            nullable: false,
-        })
-    }
-
-    // The lasts of the first pattern are followed by the firsts of the second.
-    fn seq(&mut self) -> Result<Part, PatternRefusal>
-        requires { Drafted self.old }
-        ensures { Grows self.old Seq result self.new }
-    {
-        let Some((a, b)) = self.pop_two() else {
-            return Err(PatternRefusal::Operands);
-        };
-        unite_at(&mut self.followers, a.last, b.first);
-        Ok(Part {
-            first: a.first.union(only_if(a.nullable, b.first)),
-            last: only_if(b.nullable, a.last).union(b.last),
-            nullable: a.nullable & b.nullable,
-        })
-    }
-
-    // Either of two patterns.
-    fn alt(&mut self) -> Result<Part, PatternRefusal>
-        requires { Drafted self.old }
-        ensures { Grows self.old Alt result self.new }
-    {
-        let Some((a, b)) = self.pop_two() else {
-            return Err(PatternRefusal::Operands);
-        };
-        Ok(Part {
-            first: a.first.union(b.first),
-            last: a.last.union(b.last),
-            nullable: a.nullable | b.nullable,
-        })
-    }
-
-    // The lasts of the pattern are followed by its firsts.
-    fn star(&mut self) -> Result<Part, PatternRefusal>
-        requires { Drafted self.old }
-        ensures { Grows self.old Star result self.new }
-    {
-        let Some(a) = self.pop() else {
-            return Err(PatternRefusal::Operands);
-        };
-        unite_at(&mut self.followers, a.last, a.first);
-        Ok(Part {
-            first: a.first,
-            last: a.last,
-            nullable: true,
-        })
-    }
-
-    // The last two patterns that stand, taken off.
-    fn pop_two(&mut self) -> Option<(Part, Part)>
-        ensures popped { (es : List Expr) → self.old.parts.items ≡ laid es → PoppedTwo es result self.new.parts.items }
-        ensures nodes { self.new.nodes ≡ self.old.nodes }
-        ensures followers { self.new.followers ≡ self.old.followers }
-        ensures holders { self.new.holders ≡ self.old.holders }
-    {
-        let b = self.pop()?;
-        let a = self.pop()?;
-        Some((a, b))
-    }
-
-    // The last pattern that stands, taken off.
-    fn pop(&mut self) -> Option<Part>
-        ensures popped { (es : List Expr) → self.old.parts.items ≡ laid es → Popped es result self.new.parts.items }
-        ensures nodes { self.new.nodes ≡ self.old.nodes }
-        ensures followers { self.new.followers ≡ self.old.followers }
-        ensures holders { self.new.holders ≡ self.old.holders }
-    {
-        self.parts.pop()
-    }
-}
-
-// A pattern without places.
-fn placeless(nullable: bool) -> Part
-    ensures { result ≡ record { first = record { bits = 0 }; last = record { bits = 0 }; nullable = nullable } }
-{
-    Part {
-        first: SmallSet::empty(),
-        last: SmallSet::empty(),
-        nullable,
-    }
-}
-
-// The set where the test holds, else nothing.
-pub(crate) fn only_if(test: bool, set: SmallSet) -> SmallSet
-    ensures { result.bits ≡ (if test then set.bits else 0) }
-{
-    if test { set } else { SmallSet::empty() }
-}
-
-// The sets at the indices that `which` holds take in `more`.
-fn unite_at(table: &mut Vec<SmallSet>, which: SmallSet, more: SmallSet)
-    requires { vec_len table.old ≤ 64 }
-    ensures len { vec_len table.new ≡ vec_len table.old }
-    ensures unites { (k : ℕ) → k < vec_len table.old → at table.new.items k ≡ bit_or (at table.old.items k) (if has which.bits k then more.bits else 0) }
-{
-    for k in 0..table.len() {
-        if which.holds(k as u8) {
-            table[k] = table[k].union(more);
-        }
+        let Draft {
+            mut nodes,
+            mut stack,
+        } = self;
+        stack.enter(node)?;
+        nodes.push(node)?;
+        Ok(Draft { nodes, stack })
     }
 }

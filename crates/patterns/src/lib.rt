@@ -7,6 +7,7 @@ pub mod node;
 pub mod pattern;
 mod reading;
 pub mod refusal;
+mod stack;
 
 pub use node::Node;
 pub use pattern::Pattern;

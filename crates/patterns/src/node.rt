@@ -2,6 +2,7 @@
 use bitsets::SmallSet;
 
 /// One node of a pattern.
+// A type beside `notation::Kind`, whose leaf is a word alone.
 #[derive(Clone, Copy, PartialEq, Eq, Debug)]
 pub enum Node {
     /// No session.

@@ -15,8 +15,9 @@ pub(crate) use making::finish;
 /// A pattern of bus events over so many letters: its nodes in postfix order, and the tables of its
 /// places, place 0 being the start and place k the k-th leaf. The blank pattern has no nodes and no
 /// letters.
-#[derive(Drop)]
+#[derive(PartialEq, Eq, Debug, Drop)]
 pub struct Pattern {
+    // As many as there are carriers: a field of its own, since clauses speak of it by this name.
     letters: u8,
     nodes: Vec<Node>,
     // which places follow each place

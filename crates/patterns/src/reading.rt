@@ -1,7 +1,6 @@
 // Reading a pattern from its text.
 ghost use Rattle.std.specs.Prelude.{◌≡◌, ℕ, ◌^◌, ◌<◌, ◌≤◌, [], vec_len};
 ghost use Rattle.patterns.specs.Determined.{Only};
-ghost use Rattle.patterns.specs.Drafts.{Drafted};
 ghost use Rattle.patterns.specs.Reading.{Parses, Reads};
 ghost use Rattle.patterns.specs.Reads.{Opens, NodeFor, Adds, Draws, line_of};
 ghost use Rattle.notation.specs.declared.kinds.Kind.TheVariants.{Leaf};
@@ -26,19 +25,15 @@ const MOST_NODES: u64 = 127;
 fn opening(cursor: &mut Cursor<'_>, letters: u8) -> Result<usize, PatternRefusal>
     ensures { Opens (rest cursor.old) letters result (rest cursor.new) }
 {
-    let Some(line) = cursor.line() else {
-        return Err(PatternRefusal::Header);
-    };
-    let Some(first) = header(line) else {
-        return Err(PatternRefusal::Header);
-    };
-    if first.letters != letters as u64 {
+    let line = cursor.line().ok_or(PatternRefusal::Header)?;
+    let first = header(line).ok_or(PatternRefusal::Header)?;
+    if first.letters != u64::from(letters) {
         return Err(PatternRefusal::Letters);
     }
-    if first.nodes < 1 || first.nodes > MOST_NODES {
-        return Err(PatternRefusal::Count);
+    match first.nodes {
+        nodes @ 1..=MOST_NODES => Ok(nodes as usize),
+        _ => Err(PatternRefusal::Count),
     }
-    Ok(first.nodes as usize)
 }
 
 // The node of a line, where its code suits its kind.
@@ -53,18 +48,16 @@ fn node_for<A: Alphabet>(alphabet: &A, kind: Kind, code: u32) -> Option<Node>
         Kind::Alt => Node::Alt,
         Kind::Star => Node::Star,
     };
-    if code == 0 { Some(node) } else { None }
+    (code == 0).then_some(node)
 }
 
 // The leaf with a code's letters, where the code is valid.
 fn leaf_for<A: Alphabet>(alphabet: &A, code: u32) -> Option<Node>
     ensures { NodeFor (A.meaning alphabet.now) Leaf code result }
 {
-    if alphabet.valid(code) {
-        Some(Node::Leaf(letters_of(alphabet, code)))
-    } else {
-        None
-    }
+    alphabet
+        .valid(code)
+        .then(|| Node::Leaf(letters_of(alphabet, code)))
 }
 
 // One line more in the draft.
@@ -72,38 +65,34 @@ fn add<A: Alphabet>(
     alphabet: &A,
     kind: Kind,
     code: u32,
-    draft: &mut Draft,
-) -> Result<(), PatternRefusal>
-    requires drafted { Drafted draft.old }
-    requires letters { vec_len draft.old.holders ≡ (A.meaning alphabet.now).n }
+    draft: Draft,
+) -> Result<Draft, PatternRefusal>
+    requires { vec_len draft.stack.holders ≡ (A.meaning alphabet.now).n }
     ensures code { code < 2 ^ 32 }
-    ensures adds { Adds (A.meaning alphabet.now) kind code draft.old result draft.new }
+    ensures adds { Adds (A.meaning alphabet.now) kind code draft result }
 {
-    let Some(node) = node_for(alphabet, kind, code) else {
-        return Err(PatternRefusal::Code);
-    };
-    draft.push(node)
+    let node = node_for(alphabet, kind, code).ok_or(PatternRefusal::Code)?;
+    draft.with(node)
 }
 
-// The lines of the nodes, `count` of them; the first that breaks a rule decides.
+// The lines of the nodes, `count` of them; the first that breaks a rule decides. The project asks for a
+// labelled loop whose value is the refusal (docs/DECISIONS.md, Language forms), and a `for` has no value.
 fn body<A: Alphabet>(
     alphabet: &A,
     count: usize,
     cursor: &mut Cursor<'_>,
-    draft: &mut Draft,
-) -> Result<(), Fault>
-    requires drafted { Drafted draft.old }
-    requires letters { vec_len draft.old.holders ≡ (A.meaning alphabet.now).n }
-    requires none { draft.old.nodes.items ≡ [] }
+    mut draft: Draft,
+) -> Result<Draft, Fault>
+    requires letters { vec_len draft.stack.holders ≡ (A.meaning alphabet.now).n }
+    requires none { draft.nodes.items ≡ [] }
     requires few { count ≤ 127 }
-    ensures { Draws (A.meaning alphabet.now) (rest cursor.old) count result (rest cursor.new) draft.new }
+    ensures { Draws (A.meaning alphabet.now) (rest cursor.old) count result (rest cursor.new) }
 {
-    let mut done = 0;
+    let mut numbers = 2..count + 2;
     'lines: loop {
-        if done == count {
-            break 'lines Ok(());
-        }
-        let number = done + 2;
+        let Some(number) = numbers.next() else {
+            break 'lines Ok(draft);
+        };
         let malformed = Fault {
             why: PatternRefusal::Line,
             line: number,
@@ -121,10 +110,10 @@ fn body<A: Alphabet>(
         let Entry::Whole(kind, code) = read else {
             break 'lines Err(malformed);
         };
-        if let Err(why) = add(alphabet, kind, code, draft) {
-            break 'lines Err(at_line(why, number));
+        match add(alphabet, kind, code, draft) {
+            Ok(more) => draft = more,
+            Err(why) => break 'lines Err(at_line(why, number)),
         }
-        done += 1;
     }
 }
 
@@ -151,27 +140,18 @@ fn parse<A: Alphabet>(heap: Global, alphabet: &A, text: &[u8]) -> Result<Pattern
     }
     let letters = alphabet.letters();
     let mut cursor = Cursor::new(text);
-    let count = match opening(&mut cursor, letters) {
-        Ok(count) => count,
-        Err(why) => return Err(Fault { why, line: 1 }),
-    };
-    let mut draft = Draft::new(heap, letters)?;
-    if let Err(fault) = body(alphabet, count, &mut cursor, &mut draft) {
-        return Err(fault);
-    }
+    let count = opening(&mut cursor, letters).map_err(|why| Fault { why, line: 1 })?;
+    let draft = body(alphabet, count, &mut cursor, Draft::new(heap, letters)?)?;
     if !cursor.at_end() {
         return Err(Fault {
             why: PatternRefusal::Line,
             line: count + 2,
         });
     }
-    match finish(draft, letters) {
-        Ok(pattern) => Ok(pattern),
-        Err(why) => Err(Fault {
-            why,
-            line: count + 1,
-        }),
-    }
+    finish(draft).map_err(|why| Fault {
+        why,
+        line: count + 1,
+    })
 }
 
 impl Pattern {
@@ -185,15 +165,8 @@ impl Pattern {
         ensures reads { Reads (A.meaning alphabet.now) text.now result self.new }
         ensures only { Only (A.meaning alphabet.now) text.now result }
     {
-        match parse(heap, alphabet, text) {
-            Ok(pattern) => {
-                *self = pattern;
-                Ok(())
-            }
-            Err(fault) => {
-                *self = Pattern::blank(heap);
-                Err(fault)
-            }
-        }
+        *self = Pattern::blank(heap);
+        *self = parse(heap, alphabet, text)?;
+        Ok(())
     }
 }

@@ -1,12 +1,11 @@
 // Patterns made: the blank one, and one from a draft.
 ghost use Rattle.std.specs.Prelude.{◌≡◌, ℕ, vec_len};
-ghost use Rattle.patterns.specs.Drafts.{Drafted};
-ghost use Rattle.patterns.specs.Nodes.{standing};
 ghost use Rattle.patterns.specs.Patterns.{Blank, Finished};
 
-use crate::draft::{Draft, only_if};
+use crate::draft::Draft;
 use crate::pattern::Pattern;
 use crate::refusal::PatternRefusal;
+use crate::stack::{Stack, only_if};
 use bitsets::SmallSet;
 use std::alloc::Global;
 
@@ -26,17 +25,16 @@ impl Pattern {
 }
 
 // The pattern of a draft in which one pattern stands.
-pub(crate) fn finish(draft: Draft, letters: u8) -> Result<Pattern, PatternRefusal>
-    requires drafted { Drafted draft }
-    requires span { vec_len draft.holders ≡ letters }
-    ensures { Finished draft.nodes.items letters result }
+pub(crate) fn finish(draft: Draft) -> Result<Pattern, PatternRefusal>
+    ensures { Finished draft.nodes.items (vec_len draft.stack.holders) result }
 {
-    let Draft {
-        nodes,
+    let Draft { nodes, stack } = draft;
+    let Stack {
         parts,
         followers,
         holders,
-    } = draft;
+    } = stack;
+    // A test and an index: what a slice pattern rules out the proof of the refusal doesn't get to know.
     if parts.len() != 1 {
         return Err(PatternRefusal::Left);
     }
@@ -45,7 +43,7 @@ pub(crate) fn finish(draft: Draft, letters: u8) -> Result<Pattern, PatternRefusa
     successors[0] = whole.first.union(successors[0]);
     let finals = whole.last.union(only_if(whole.nullable, SmallSet::only(0)));
     Ok(Pattern {
-        letters,
+        letters: holders.len() as u8,
         nodes,
         successors,
         carriers: holders,

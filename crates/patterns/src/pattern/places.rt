@@ -28,11 +28,10 @@ impl Pattern {
     pub fn take(&self, places: SmallSet, letter: u8) -> SmallSet
         ensures { Takes (expr_of self.now) places.bits letter result.bits }
     {
-        let index = letter as usize;
-        if index >= self.carriers.len() {
+        let Some(carriers) = self.carriers.get(letter as usize) else {
             return SmallSet::empty();
-        }
-        self.following(places).common(self.carriers[index])
+        };
+        self.following(places).common(*carriers)
     }
 
     // The places that follow one of these.
@@ -40,9 +39,9 @@ impl Pattern {
         ensures { result.bits ≡ united (followers (expr_of self.now)) places.bits (vec_len self.now.successors) }
     {
         let mut all = SmallSet::empty();
-        for p in 0..self.successors.len() {
+        for (p, next) in self.successors.iter().enumerate() {
             if places.holds(p as u8) {
-                all = all.union(self.successors[p]);
+                all = all.union(*next);
             }
         }
         all

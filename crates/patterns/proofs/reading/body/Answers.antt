@@ -23,42 +23,45 @@ lines-preserved g c =
     let code = c.in-Whole.code in
     let small : code < 2 ^ 32 = c.add.ensures.code in
     let stands =
-    whole_stands c.lines.cursor c.line.new.self c.in-Some.line c.loop-token.line c.loop-token.read k code c.in-Some.ensures.line
+    whole_stands c.lines.cursor c.line.new.self c.in-Some-line.line c.loop-token.line c.loop-token.read k code c.in-Some-line.ensures.line
     c.loop-token.invariant c.in_default-field.ensures.field.0 c.in-Whole.is in
-    let adds = c.in_default-add.ensures.adds in
-    let keeps = keeps_added m ls c.lines.draft c.add.new.draft k code inv.2 adds.0 adds.1 in (
+    let adds = c.in-Ok.ensures.adds in
+    let keeps = keeps_added m ls c.lines.draft c.in-Ok.more k code inv.2 adds.0 adds.1 in (
       ls ++ ((k, code) ∷ []),
       lines_more m (rest c.args.cursor.now) ls (rest c.lines.cursor) (rest c.line.new.self) k code small inv.1 stands keeps,
-      drawn_more m ls c.lines.draft c.add.new.draft k code inv.2 adds.1,
-      length_push ls (k, code) ∙ omega (arith, inv.3),
-      omega (arith, c.if-done-count.false, inv.4),
+      drawn_more m ls c.lines.draft c.in-Ok.more k code inv.2 adds.1,
+      omega (arith, length_push ls (k, code), inv.3, c.in-Some.ensures.steps),
+      omega (arith, inv.4, inv.5, c.in-Some.ensures.steps),
+      omega (arith, inv.5, c.in-Some.ensures.steps),
     )
 
-pub returns-in_default : goal.returns-in_default
-returns-in_default g c =
+pub returns-in_default-line : goal.returns-in_default-line
+returns-in_default-line g c =
     let inv = c.lines.invariant in
-    wrong_none _ _ _ _ inv.0 _ inv.1 inv.3 c.if-done-count.false inv.4 (no_line_no_entry (rest c.lines.cursor) c.in_default.ensures.line.0)
+    wrong_none _ _ _ _ inv.0 _ inv.1 (omega (arith, inv.3, c.in-Some.ensures.steps)) (omega (arith, inv.5, c.in-Some.ensures.steps))
+    (no_line_no_entry (rest c.lines.cursor) c.in_default-line.ensures.line.0)
 
 pub returns-in-None : goal.returns-in-None
 returns-in-None g c =
     let inv = c.lines.invariant in
     let took = c.in-Some-field.ensures.field in
-    wrong_none _ _ _ _ inv.0 _ inv.1 inv.3 c.if-done-count.false inv.4
-    (no_way_on c.lines.cursor c.line.new.self c.in-Some.line c.loop-token.line c.loop-token.read took.word (fields_left c.field.new.self)
-    c.in-Some.ensures.line c.loop-token.invariant took.split_off (c.in-None.ensures took.word took.spelt))
+    wrong_none _ _ _ _ inv.0 _ inv.1 (omega (arith, inv.3, c.in-Some.ensures.steps)) (omega (arith, inv.5, c.in-Some.ensures.steps))
+    (no_way_on c.lines.cursor c.line.new.self c.in-Some-line.line c.loop-token.line c.loop-token.read took.word (fields_left c.field.new.self)
+    c.in-Some-line.ensures.line c.loop-token.invariant took.split_off (c.in-None.ensures took.word took.spelt))
 
 pub returns-in_default-read : goal.returns-in_default-read
 returns-in_default-read g c =
     let inv = c.lines.invariant in
-    wrong_none _ _ _ _ inv.0 _ inv.1 inv.3 c.if-done-count.false inv.4
-    (ended_early c.lines.cursor c.line.new.self c.in-Some.line c.loop-token.line c.loop-token.read
-    c.in-Some.ensures.line c.loop-token.invariant c.in_default-field.ensures.field.0 c.in_default-read.not-Whole)
+    wrong_none _ _ _ _ inv.0 _ inv.1 (omega (arith, inv.3, c.in-Some.ensures.steps)) (omega (arith, inv.5, c.in-Some.ensures.steps))
+    (ended_early c.lines.cursor c.line.new.self c.in-Some-line.line c.loop-token.line c.loop-token.read
+    c.in-Some-line.ensures.line c.loop-token.invariant c.in_default-field.ensures.field.0 c.in_default-read.not-Whole)
 
 pub returns-in-Err : goal.returns-in-Err
 returns-in-Err g c =
     let inv = c.lines.invariant in
     let small : c.in-Whole.code < 2 ^ 32 = c.add.ensures.code in
-    wrong_line _ _ _ _ inv.0 _ inv.1 inv.3 c.if-done-count.false inv.4 c.lines.draft c.in-Whole.kind c.in-Whole.code (rest c.line.new.self) c.in-Err.why inv.2 small
-    (whole_stands c.lines.cursor c.line.new.self c.in-Some.line c.loop-token.line c.loop-token.read c.in-Whole.kind c.in-Whole.code c.in-Some.ensures.line
+    wrong_line _ _ _ _ inv.0 _ inv.1 (omega (arith, inv.3, c.in-Some.ensures.steps)) (omega (arith, inv.5, c.in-Some.ensures.steps))
+    c.lines.draft c.in-Whole.kind c.in-Whole.code (rest c.line.new.self) c.in-Err.why inv.2 small
+    (whole_stands c.lines.cursor c.line.new.self c.in-Some-line.line c.loop-token.line c.loop-token.read c.in-Whole.kind c.in-Whole.code c.in-Some-line.ensures.line
     c.loop-token.invariant c.in_default-field.ensures.field.0 c.in-Whole.is)
     c.in-Err.ensures.adds c.at_line.result c.at_line.ensures.why c.at_line.ensures.line

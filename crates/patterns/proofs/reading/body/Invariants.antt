@@ -1,4 +1,4 @@
-use Rattle.std.proofs.Common.{◌≡◌, ℕ, ◌-◌, ◌≤◌, List, ◌++◌, length}
+use Rattle.std.proofs.Common.{◌≡◌, ℕ, ◌+◌, ◌-◌, ◌≤◌, List, ◌++◌, length}
 use Rattle.notation.specs.Notation.{fields_of}
 use Rattle.notation.specs.declared.kinds.Kind.{Kind}
 use Rattle.patterns.proofs.reading.body.Given as goal
@@ -18,8 +18,9 @@ invariant-lines g l =
     (ls : List (Kind × ℕ))
     × Lines (g.A.Alphabet.meaning l.alphabet) (rest l.initial.cursor) ls (rest l.cursor)
     × Drawn (g.A.Alphabet.meaning l.alphabet) ls l.draft
-    × (length ls ≡ l.done)
-    × (l.done ≤ l.count)
+    × (length ls + 2 ≡ l.numbers.start)
+    × (l.numbers.start ≤ l.count + 2)
+    × (l.numbers.end ≡ l.count + 2)
 
 abbrev pub decreases-lines : goal.decreases-lines
-decreases-lines g l = l.count - l.done
+decreases-lines g l = l.numbers.end - l.numbers.start

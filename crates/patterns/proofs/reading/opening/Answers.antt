@@ -1,49 +1,51 @@
-use Rattle.std.proofs.Common.{◌≡◌, ◌^◌, ◌<◌, ◌∷◌, ◌++◌, ap, ◌∙◌, inl, inr, arith, rules}
-use Rattle.notation.specs.Notation.{header_bytes}
-use Rattle.patterns.proofs.Openings.{no_line_no_header, no_fields_no_header, header_stands}
+use Rattle.std.proofs.Common.{refl, sym, subst, ◌∙◌, arith, rules}
+use Rattle.notation.specs.Notation.{Heads}
+use Rattle.patterns.proofs.Exits.{no_value}
+use Rattle.patterns.proofs.Openings.{no_line_no_header, no_fields_no_header, first_stands}
 use Rattle.patterns.proofs.reading.opening.Goals as goal
-use Rattle.texts.specs.Lines.{rest}
+use Rattle.patterns.specs.declared.refusal.PatternRefusal.TheVariants.{Header}
+use Rattle.std.proofs.lemmas.Result.{err_from_is_err_and}
+use Rattle.texts.specs.Lines.{NextLine, rest, fields_left}
+
+pub returns-in_err-line : goal.returns-in_err-line
+returns-in_err-line c =
+    let none = no_value c.line.result Header c.in_err-line.field-0.0 c.in_err-line.ensures.value in
+    let p = err_from_is_err_and c.from_residual.result c.from_residual.ensures.1 in
+    rw (p.1, p.2, none.1)
+    (no_line_no_header (rest c.args.cursor.now) (subst (λ o. NextLine c.args.cursor.now o c.line.new.self) none.0 c.line.ensures.line).0)
+
+pub returns-in_err-first : goal.returns-in_err-first
+returns-in_err-first c =
+    let line = c.in_ok-line.line in
+    let gave = subst (λ o. NextLine c.args.cursor.now o c.line.new.self) c.in_ok-line.ensures.ok_part c.line.ensures.line in
+    let none = no_value c.header.result Header c.in_err-first.field-0.0 c.in_err-first.ensures.value in
+    let p = err_from_is_err_and c.from_residual-in_err-first.result c.from_residual-in_err-first.ensures.1 in
+    rw (p.1, p.2, none.1)
+    (no_fields_no_header c.args.cursor.now c.line.new.self line gave (subst (λ o. Heads (fields_left line) o) none.0 c.header.ensures))
+
+pub returns-then-first-from : goal.returns-then-first-from
+returns-then-first-from c =
+    let stands = first_stands c.args.cursor.now c.line.new.self c.in_ok-line.line c.in_ok-first.first _ _
+    c.line.ensures.line c.in_ok-line.ensures.ok_part c.header.ensures c.in_ok-first.ensures.ok_part _ refl in
+    (_, _, (_, omega arith, omega arith, stands), λ e. c.if-first-from.true (e ∙ sym c.from.ensures))
 
 pub returns-in_default : goal.returns-in_default
-returns-in_default c = no_line_no_header (rest c.args.cursor.now) c.in_default.ensures.line.0
+returns-in_default c =
+    let stands = first_stands c.args.cursor.now c.line.new.self c.in_ok-line.line c.in_ok-first.first _ _
+    c.line.ensures.line c.in_ok-line.ensures.ok_part c.header.ensures c.in_ok-first.ensures.ok_part
+    c.args.letters (omega (arith, c.if-first-from.false, c.from.ensures)) in
+    (_, (_, omega arith, omega arith, stands), λ h. omega arith)
 
-pub returns-in_default-header : goal.returns-in_default-header
-returns-in_default-header c =
-    no_fields_no_header c.args.cursor.now c.line.new.self c.in-Some.line c.in-Some.ensures.line c.in_default-header.ensures
+pub returns-in_default-2 : goal.returns-in_default-2
+returns-in_default-2 c =
+    let stands = first_stands c.args.cursor.now c.line.new.self c.in_ok-line.line c.in_ok-first.first _ _
+    c.line.ensures.line c.in_ok-line.ensures.ok_part c.header.ensures c.in_ok-first.ensures.ok_part
+    c.args.letters (omega (arith, c.if-first-from.false, c.from.ensures)) in
+    (_, (_, omega arith, omega arith, stands), λ h. omega arith)
 
-pub returns-then-first-letters : goal.returns-then-first-letters
-returns-then-first-letters c =
-    let n = c.in-Some-header.first.letters in
-    let m = c.in-Some-header.first.nodes in
-    let n_small : n < 2 ^ 64 = omega arith in
-    let m_small : m < 2 ^ 64 = omega arith in
-    (n, m, (_, n_small, m_small, header_stands _ c.line.new.self _ n m c.in-Some.ensures.line c.in-Some-header.ensures), c.if-first-letters.true)
-
-pub returns-then-first-lt1 : goal.returns-then-first-lt1
-returns-then-first-lt1 c =
-    let n = c.in-Some-header.first.letters in
-    let m = c.in-Some-header.first.nodes in
-    let n_small : c.args.letters < 2 ^ 64 = omega arith in
-    let m_small : m < 2 ^ 64 = omega arith in
-    let same : n ≡ c.args.letters = search rules in
-    let after = c.line.new.self in (
-      m,
-      (
-        _,
-        n_small,
-        m_small,
-        header_stands _ after _ n m c.in-Some.ensures.line c.in-Some-header.ensures ∙ ap (λ k. header_bytes k m ++ (10 ∷ rest after)) same,
-      ),
-      λ h. elim c.then-first-lt1.either [ inl a ↦ omega arith | inr b ↦ omega (arith, b) ],
-    )
-
-pub returns : goal.returns
-returns c =
-    let n = c.in-Some-header.first.letters in
-    let m = c.in-Some-header.first.nodes in
-    let same : n ≡ c.args.letters = search rules in
-    let after = c.line.new.self in (
-      search rules,
-      search rules,
-      header_stands _ after _ n m c.in-Some.ensures.line c.in-Some-header.ensures ∙ ap (λ k. header_bytes k m ++ (10 ∷ rest after)) same,
-    )
+pub returns-in-1-to-127 : goal.returns-in-1-to-127
+returns-in-1-to-127 c =
+    let stands = first_stands c.args.cursor.now c.line.new.self c.in_ok-line.line c.in_ok-first.first _ _
+    c.line.ensures.line c.in_ok-line.ensures.ok_part c.header.ensures c.in_ok-first.ensures.ok_part
+    c.args.letters (omega (arith, c.if-first-from.false, c.from.ensures)) in
+    (search rules, search rules, stands)

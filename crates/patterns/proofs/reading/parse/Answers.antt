@@ -1,44 +1,37 @@
-use Rattle.std.proofs.Common.{◌≡◌, ◌+◌, [], length, sym, ap, ◌∙◌, subst, rules}
-use Rattle.patterns.proofs.Parses.{first_line, wrong_text, left_over, accepted}
+use Rattle.std.proofs.Common.{◌≡◌, [], subst, rules}
+use Rattle.patterns.proofs.Exits.{ok_through}
+use Rattle.patterns.proofs.Parses.{first_line, wrong_text, closes}
 use Rattle.patterns.proofs.reading.parse.Goals as goal
-use Rattle.patterns.specs.Nodes.{standing}
-use Rattle.patterns.specs.Reading.{RefusesText}
-use Rattle.patterns.specs.Reads.{Lines}
+use Rattle.patterns.specs.Reads.{Lines, Opens}
+use Rattle.patterns.specs.declared.refusal.Fault.{Fault}
+use Rattle.std.proofs.lemmas.Result.{err_from_is_err_and}
 use Rattle.texts.specs.Lines.{rest}
 
-pub returns-in-Err-body : goal.returns-in-Err-body
-returns-in-Err-body g c =
+pub returns-in_err-draft : goal.returns-in_err-draft
+returns-in_err-draft g c =
     let m = g.A.Alphabet.meaning c.args.alphabet.now in
-    let opens = c.in-Ok.ensures in
+    let count = c.in_ok-count.count in
     let after = rest c.opening.new.cursor in
-    let whole = first_line _ _ after _ _ c.in-Ok.count c.new-cursor.ensures.rest opens.2 c.letters-letters.ensures in
-    wrong_text m (g.met.A.Alphabet.sound c.args.alphabet.now) c.args.text.now c.in-Ok.count (search rules) opens.0 opens.1 after whole
-    c.in-Err-body.fault.why c.in-Err-body.fault.line c.in-Err-body.ensures
+    let opens = subst (λ r. Opens (rest c.new-cursor.result) c.letters-letters.result r after)
+    (ok_through Fault c.opening.result count c.in_ok-count.ensures.cases) c.opening.ensures in
+    let whole = first_line _ _ after _ _ count c.new-cursor.ensures.rest opens.2 c.letters-letters.ensures in
+    let fault = c.in_err-draft.field-0.0 in
+    let p = err_from_is_err_and c.from_residual-in_err-draft.result c.from_residual-in_err-draft.ensures.1 in
+    rw (p.1, p.2)
+    (wrong_text m (g.met.A.Alphabet.sound c.args.alphabet.now) c.args.text.now count (search rules) opens.0 opens.1 after whole
+    fault.why fault.line c.in_err-draft.ensures)
 
-pub returns-in-Ok-finish : goal.returns-in-Ok-finish
-returns-in-Ok-finish g c =
+pub returns : goal.returns
+returns g c =
     let m = g.A.Alphabet.meaning c.args.alphabet.now in
-    let opens = c.in-Ok.ensures in
+    let count = c.in_ok-count.count in
     let after = rest c.opening.new.cursor in
-    let whole = first_line _ _ after _ _ c.in-Ok.count c.new-cursor.ensures.rest opens.2 c.letters-letters.ensures in
-    let draws = c.in_default.ensures in
+    let opens = subst (λ r. Opens (rest c.new-cursor.result) c.letters-letters.result r after)
+    (ok_through Fault c.opening.result count c.in_ok-count.ensures.cases) c.opening.ensures in
+    let whole = first_line _ _ after _ _ count c.new-cursor.ensures.rest opens.2 c.letters-letters.ensures in
+    let draws = c.in_ok-draft.ensures in
     let over : rest c.body.new.cursor ≡ [] = search rules in
     let read = subst (λ t. Lines m after draws.0 t) over draws.1 in
-    let made = c.in-Ok-finish.ensures in
-    accepted m (g.met.A.Alphabet.sound c.args.alphabet.now) c.args.text.now c.in-Ok.count (search rules) opens.0 opens.1 after whole
-    draws.0 read draws.3 c.in-Ok-finish.pattern (made.0 ∙ c.letters-letters.ensures) (made.1 ∙ draws.2.nodes_are)
-    (ap (λ xs. length (standing xs)) (sym draws.2.nodes_are) ∙ made.2)
-
-pub returns-in-Err-finish : goal.returns-in-Err-finish
-returns-in-Err-finish g c =
-    let m = g.A.Alphabet.meaning c.args.alphabet.now in
-    let opens = c.in-Ok.ensures in
-    let after = rest c.opening.new.cursor in
-    let whole = first_line _ _ after _ _ c.in-Ok.count c.new-cursor.ensures.rest opens.2 c.letters-letters.ensures in
-    let draws = c.in_default.ensures in
-    let over : rest c.body.new.cursor ≡ [] = search rules in
-    let read = subst (λ t. Lines m after draws.0 t) over draws.1 in
-    let refused = c.in-Err-finish.ensures in
-    subst (λ r. RefusesText m c.args.text.now r (c.in-Ok.count + 1)) (sym refused.0)
-    (left_over m (g.met.A.Alphabet.sound c.args.alphabet.now) c.args.text.now c.in-Ok.count (search rules) opens.0 opens.1 after whole
-    draws.0 read draws.3 (λ one. refused.1 (ap (λ xs. length (standing xs)) draws.2.nodes_are ∙ one)))
+    closes m (g.met.A.Alphabet.sound c.args.alphabet.now) c.args.text.now count (search rules) opens.0 opens.1 after whole
+    draws.0 read draws.3 _ _ draws.2.nodes_are draws.2.letters c.finish.result c.map_err-2.result _ c.finish.ensures c.map_err-2.ensures.cases
+    (λ e f q. (search rules, search rules))
