@@ -6,7 +6,7 @@ use blocks::Automaton;
 
 /// A hand that goes round a dial of `hours` hours, at least 1: letter a moves it on by a + 1 strides.
 /// A state counts hours; two states are the same when the hand shows the same hour.
-#[derive(Clone, Copy)]
+#[derive(Clone, Copy, PartialEq, Eq, Debug)]
 pub struct Dial {
     hours: u16,
     stride: u16,

@@ -1,6 +1,7 @@
 // Blocks of rows, exact and not, and searches at their limits: a printed line for each case.
 #![tactic(auto)]
 
+mod case;
 mod checks;
 mod dial;
 mod searches;

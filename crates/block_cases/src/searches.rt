@@ -1,50 +1,17 @@
 // Searches with room and at their limits, all into the same rows.
+use crate::case::Case;
 use crate::dial::Dial;
-use blocks::{Row, SearchRefusal, is_exact, search};
+use blocks::Row;
 use std::io;
 
-fn say(
-    rt: &HostRuntime,
-    name: &str,
-    dial: &Dial,
-    limit: usize,
-    rows: &mut Vec<Row<u32>>,
-) -> io::Result<()> {
-    let found = search(dial, limit, rows);
-    let count = rows.len();
-    match found {
-        Ok(()) => {
-            let answer = if is_exact(dial, rows) {
-                "exact"
-            } else {
-                "not exact"
-            };
-            println!(rt; "{name}, limit {limit}: found {count}, {answer}")
-        }
-        Err(SearchRefusal::TooMany) => println!(rt;
-            "{name}, limit {limit}: too many, {count} left"
-        ),
-        Err(SearchRefusal::Memory) => println!(rt; "{name}, limit {limit}: no memory"),
-    }
-}
-
 fn print_row(rt: &HostRuntime, row: &Row<u32>) -> io::Result<()> {
-    let state = row.state;
-    let one = row.next[0];
-    let two = row.next[1];
-    println!(rt; "{state},{one},{two}")
+    println!(rt; "{},{},{}", row.state, row.next[0], row.next[1])
 }
 
 // The rows themselves, in the order in which they are first met.
 pub(crate) fn small(rt: &HostRuntime) -> anyhow::Result<()> {
     let mut rows = Vec::new(rt.alloc());
-    say(
-        rt,
-        "five hours by 3 and 6",
-        &Dial::new(5, 3, 2),
-        5,
-        &mut rows,
-    )?;
+    Case::new("five hours by 3 and 6", Dial::new(5, 3, 2)).search(rt, 5, &mut rows)?;
     for row in &rows {
         print_row(rt, row)?;
     }
@@ -53,26 +20,20 @@ pub(crate) fn small(rt: &HostRuntime) -> anyhow::Result<()> {
 
 pub(crate) fn at_limits(rt: &HostRuntime) -> anyhow::Result<()> {
     let mut rows = Vec::new(rt.alloc());
-    let five = Dial::new(5, 1, 2);
-    say(rt, "five hours", &five, 1000, &mut rows)?;
-    say(rt, "five hours", &five, 5, &mut rows)?;
-    say(rt, "five hours", &five, 4, &mut rows)?;
-    say(rt, "five hours", &five, 0, &mut rows)?;
-    let still = Dial::new(5, 1, 0);
-    say(rt, "no letters", &still, 1, &mut rows)?;
-    say(rt, "no letters", &still, 0, &mut rows)?;
-    let most = Dial::new(256, 1, 1);
-    say(rt, "256 hours", &most, 256, &mut rows)?;
-    say(rt, "256 hours", &most, 255, &mut rows)?;
-    let past = Dial::new(257, 1, 1);
-    say(rt, "257 hours", &past, 256, &mut rows)?;
-    say(rt, "257 hours", &past, 257, &mut rows)?;
-    say(
-        rt,
-        "17 hours, 16 letters",
-        &Dial::new(17, 1, 16),
-        17,
-        &mut rows,
-    )?;
+    let five = Case::new("five hours", Dial::new(5, 1, 2));
+    five.search(rt, 1000, &mut rows)?;
+    five.search(rt, 5, &mut rows)?;
+    five.search(rt, 4, &mut rows)?;
+    five.search(rt, 0, &mut rows)?;
+    let still = Case::new("no letters", Dial::new(5, 1, 0));
+    still.search(rt, 1, &mut rows)?;
+    still.search(rt, 0, &mut rows)?;
+    let most = Case::new("256 hours", Dial::new(256, 1, 1));
+    most.search(rt, 256, &mut rows)?;
+    most.search(rt, 255, &mut rows)?;
+    let past = Case::new("257 hours", Dial::new(257, 1, 1));
+    past.search(rt, 256, &mut rows)?;
+    past.search(rt, 257, &mut rows)?;
+    Case::new("17 hours, 16 letters", Dial::new(17, 1, 16)).search(rt, 17, &mut rows)?;
     Ok(())
 }

@@ -24,33 +24,6 @@ pushed_seated m fair most k before after row bare grown last few fresh =
       how = inr (record { row = row; holds = refl; bare = bare; grown = grown; last = last; fresh = fresh });
     }
 
--- the first row, where a row with the start's state is seated
-pub grown_start : {S : Type 0} (m : Moves S) → Fair m → (most k : ℕ) (s : S) (rows : List (Row S)) → m.alike s m.start → Seated m most [] s k rows → Grown m most 0 0 rows
-grown_start m fair most k s rows start seated = ⊎_elim unseated (λ pushed. first pushed) seated.how
-  where
-    unseated : rows ≡ [] → Grown m most 0 0 rows
-    unseated e = absurd (omega (arith, seated.there, ap length e))
-
-    none : (k b : ℕ) → Before k b 0 0 → ⊥
-    none k b (inl h) = omega arith
-    none k b (inr (e, h)) = omega arith
-
-    first : Pushed m [] s k rows → Grown m most 0 0 rows
-    first pushed =
-        let one : length rows ≡ 1 = ap length pushed.grown in
-        record {
-          some = omega arith;
-          met = λ j some h. absurd (omega arith);
-          entered = record {
-            few = seated.few;
-            starts = fair.chain (state m rows 0) s m.start (subst (λ n. m.alike (state m rows n) s) pushed.last seated.alike) start;
-            differ = λ i j l h. absurd (omega arith);
-            steps = λ k b before. absurd (none k b before);
-            ordered = λ k b j before. absurd (none k b before);
-            spare = λ k b l. ap (λ rows. next m rows k b) pushed.grown ∙ next_more m [] pushed.row pushed.bare k b;
-          };
-        }
-
 -- all letters of a row are entered
 pub grown_row : {S : Type 0} (m : Moves S) (most i : ℕ) (rows : List (Row S)) → Grown m most i m.letters rows → Grown m most (suc i) 0 rows
 grown_row m most i rows grown =

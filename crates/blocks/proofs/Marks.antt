@@ -1,36 +1,12 @@
 -- Marking the rows that come next.
-use Rattle.std.proofs.Common.{◌≡◌, ℕ, zero, suc, ◌+◌, ◌<◌, Bool, true, false, ◌⊎◌, List, ◌∷◌, length, get_or, set, replicate, Decides, sym, refl, ◌∙◌, subst, inl, inr, ⊎_elim, arith}
+use Rattle.std.proofs.Common.{◌≡◌, ℕ, zero, suc, ◌+◌, Bool, true, false, ◌⊎◌, List, ◌∷◌, get_or, replicate, Decides, sym, refl, subst, inl, inr, ⊎_elim, arith}
 use Rattle.blocks.proofs.Numbers.{get_or-blank}
 use Rattle.blocks.specs.Blocks.{Named, next, origin}
 use Rattle.blocks.specs.Marks.{Among, Marked, Tracked}
 use Rattle.blocks.specs.Moves.{Moves}
 use Rattle.blocks.specs.declared.row.Row.{Row}
-use Rattle.std.proofs.lemmas.List.{get_or-set_same, get_or-set_other}
 use Rattle.std.proofs.lemmas.Bool.{both_ways, cases_eq}
 use Rattle.std.proofs.lemmas.Bool.Decides.{Decides-like}
-
-among_more : (n : ℕ) (nexts : List ℕ) (j : ℕ) → Among n nexts j → Among (n + 1) nexts j
-among_more n nexts j (a, lt, e) = (a, omega arith, e)
-
-among_last : (n : ℕ) (nexts : List ℕ) (j : ℕ) → (j ≡ get_or nexts n 0 → ⊥) → Among (n + 1) nexts j → Among n nexts j
-among_last n nexts j other (a, lt, e) =
-    ⊎_elim
-    (λ (same : a ≡ n). absurd (other (sym (subst (λ (x : ℕ). get_or nexts x 0 ≡ j) same e))))
-    (λ (differs : a ≡ n → ⊥). (a, omega arith, e))
-    (cases_eq a n)
-
--- one more next row is marked
-pub marked_more : (n : ℕ) (nexts : List ℕ) (before named : List Bool) → get_or nexts n 0 < length named → Marked n nexts before named → Marked (n + 1) nexts before (set named (get_or nexts n 0) true)
-marked_more n nexts before named lt m j =
-    ⊎_elim
-    (λ (same : j ≡ get_or nexts n 0).
-    (λ _. inr (n, omega arith, sym same), λ _. subst (λ (x : ℕ). get_or (set named (get_or nexts n 0) true) x false ≡ true) (sym same) (get_or-set_same named (get_or nexts n 0) true false lt)))
-    (λ (differs : j ≡ get_or nexts n 0 → ⊥).
-    let e = get_or-set_other named (get_or nexts n 0) j true false differs in (
-      λ h. ⊎_elim (λ b. inl b) (λ w. inr (among_more n nexts j w)) ((m j).0 (sym e ∙ h)),
-      λ h. e ∙ (m j).1 (⊎_elim (λ b. inl b) (λ w. inr (among_last n nexts j differs w)) h),
-    ))
-    (cases_eq j (get_or nexts n 0))
 
 -- row 0 alone is marked
 pub first_alone : (n j : ℕ) → Decides (get_or (true ∷ replicate n false) j false) (j ≡ 0)
@@ -75,11 +51,3 @@ module _ {S : Type 0} (m : Moves S) (rows : List (Row S)) where
             (λ (differs : j ≡ k → ⊥). t.timely j some (omega arith))
             (cases_eq j k);
       }
-
-  -- a row that is not marked came next after no row before it
-  pub untimely : (k : ℕ) (named : List Bool) → Tracked m rows k named → k < length rows → get_or named k false ≡ false → ((j : ℕ) → 0 < j → j < length rows → Named m rows j j) → ⊥
-  untimely k named t lt unmarked all =
-      ⊎_elim
-      (λ (zero : k ≡ 0). both_ways (get_or named k false) unmarked ((t.marks k).1 (inl zero)))
-      (λ (later : k ≡ 0 → ⊥). both_ways (get_or named k false) unmarked ((t.marks k).1 (inr (all k (omega arith) lt))))
-      (cases_eq k 0)

@@ -12,10 +12,6 @@ pub(crate) fn find<A: Automaton>(
 ) -> Option<usize>
     ensures { Finds (A.moves automaton.now) rows.now state.now result }
 {
-    for (k, row) in rows.iter().enumerate() {
-        if automaton.same(&row.state, state) {
-            return Some(k);
-        }
-    }
-    None
+    rows.iter()
+        .position(|row| automaton.same(&row.state, state))
 }

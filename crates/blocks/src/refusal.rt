@@ -13,6 +13,7 @@ pub enum SearchRefusal {
     Memory,
 }
 
+// By hand: it is public, and `from_gives` is a promise that no derive makes.
 impl<T: Drop> From<AllocFailed<T>> for SearchRefusal {
     ghost from_gives = { λ _ r. r ≡ Memory };
 

@@ -1,5 +1,5 @@
 // The search for every state that an automaton reaches.
-ghost use Rattle.std.specs.Prelude.{◌≡◌, ℕ, ◌<◌, ◌≤◌, [], length, vec_len, vec_capacity, Decides};
+ghost use Rattle.std.specs.Prelude.{◌≡◌, ℕ, ◌<◌, ◌≤◌, [], vec_len, vec_capacity};
 ghost use Rattle.blocks.specs.Search.{Expanded, Filled, Grown, Linked, Placed, Searched, allowed};
 
 use crate::automaton::Automaton;
@@ -19,85 +19,74 @@ pub fn search<A: Automaton>(
     ensures room { vec_capacity rows.old ≤ vec_capacity rows.new }
 {
     rows.clear();
-    let found = fill(automaton, limit.min(ROW_NUMBERS), rows);
+    let most = limit.min(ROW_NUMBERS);
+    let found = Builder { automaton, most }.fill(rows);
     if found.is_err() {
         rows.clear();
     }
     found
 }
 
-// The start, and then row after row.
-fn fill<A: Automaton>(
-    automaton: &A,
+// Builds the block of an automaton, of at most `most` rows. The rows stay a parameter: a clause on a Vec
+// that is lent in a field is no plainer, so their room stands in the contract of each call that adds some.
+#[derive(Drop)]
+struct Builder<'a, A> {
+    automaton: &'a A,
     most: usize,
-    rows: &mut Vec<Row<A::State>>,
-) -> Result<(), SearchRefusal>
-    requires empty { rows.old.items ≡ [] }
-    requires most { most ≤ 256 }
-    ensures rows { Filled (A.moves automaton.now) most (vec_capacity rows.old) result rows.new.items }
-    ensures room { vec_capacity rows.old ≤ vec_capacity rows.new }
-{
-    place(automaton, most, rows, automaton.start())?;
-    let mut done = 0;
-    while done < rows.len() {
-        expand(automaton, most, rows, done)?;
-        done += 1;
-    }
-    Ok(())
+    ghost numbered: { most ≤ 256 },
 }
 
-// Enters the next rows of one row.
-fn expand<A: Automaton>(
-    automaton: &A,
-    most: usize,
-    rows: &mut Vec<Row<A::State>>,
-    at: usize,
-) -> Result<(), SearchRefusal>
-    requires there { at < vec_len rows.old }
-    requires most { most ≤ 256 }
-    requires grown { Grown (A.moves automaton.now) most at 0 rows.old.items }
-    ensures rows { Expanded (A.moves automaton.now) most at (vec_len rows.old) (vec_capacity rows.old) result rows.new.items }
-    ensures room { vec_capacity rows.old ≤ vec_capacity rows.new }
-{
-    for letter in 0..automaton.letters() {
-        let state = automaton.step(&rows[at].state, letter);
-        let next = place(automaton, most, rows, state)?;
-        link(rows, at, letter, next);
+impl<'a, A: Automaton> Builder<'a, A> {
+    // The start, and then row after row.
+    fn fill(&self, rows: &mut Vec<Row<A::State>>) -> Result<(), SearchRefusal>
+        requires empty { rows.old.items ≡ [] }
+        ensures rows { Filled (A.moves self.now.automaton.now) self.now.most (vec_capacity rows.old) result rows.new.items }
+        ensures room { vec_capacity rows.old ≤ vec_capacity rows.new }
+    {
+        self.place(rows, self.automaton.start())?;
+        // Counted by hand: rows are added while they are gone through.
+        let mut done = 0;
+        while done < rows.len() {
+            self.expand(rows, done)?;
+            done += 1;
+        }
+        Ok(())
     }
-    Ok(())
-}
 
-// The row of a state: the one that has it, or a new one.
-fn place<A: Automaton>(
-    automaton: &A,
-    most: usize,
-    rows: &mut Vec<Row<A::State>>,
-    state: A::State,
-) -> Result<u8, SearchRefusal>
-    requires few { vec_len rows.old ≤ most }
-    requires most { most ≤ 256 }
-    ensures rows { Placed (A.moves automaton.now) most (vec_capacity rows.old) rows.old.items state result rows.new.items }
-    ensures room { vec_capacity rows.old ≤ vec_capacity rows.new }
-{
-    if let Some(k) = find(automaton, rows, &state) {
-        return Ok(k as u8);
+    // Enters the next rows of one row.
+    fn expand(&self, rows: &mut Vec<Row<A::State>>, at: usize) -> Result<(), SearchRefusal>
+        requires there { at < vec_len rows.old }
+        requires grown { Grown (A.moves self.now.automaton.now) self.now.most at 0 rows.old.items }
+        ensures rows { Expanded (A.moves self.now.automaton.now) self.now.most at (vec_len rows.old) (vec_capacity rows.old) result rows.new.items }
+        ensures room { vec_capacity rows.old ≤ vec_capacity rows.new }
+    {
+        for letter in 0..self.automaton.letters() {
+            let state = self.automaton.step(&rows[at].state, letter);
+            let next = self.place(rows, state)?;
+            link(rows, at, letter, next);
+        }
+        Ok(())
     }
-    if !has_room(rows, most) {
-        return Err(SearchRefusal::TooMany);
-    }
-    let row = rows.len();
-    rows.push(Row {
-        state,
-        next: [0; 16],
-    })?;
-    Ok(row as u8)
-}
 
-// Whether one row more is within the limit.
-fn has_room<S>(rows: &[Row<S>], most: usize) -> bool
-    ensures { Decides result (length rows.now < most) }
-{
-    rows.len() < most
+    // The row of a state: the one that has it, or a new one.
+    fn place(&self, rows: &mut Vec<Row<A::State>>, state: A::State) -> Result<u8, SearchRefusal>
+        requires few { vec_len rows.old ≤ self.now.most }
+        ensures rows { Placed (A.moves self.now.automaton.now) self.now.most (vec_capacity rows.old) rows.old.items state result rows.new.items }
+        ensures room { vec_capacity rows.old ≤ vec_capacity rows.new }
+    {
+        if let Some(k) = find(self.automaton, rows, &state) {
+            return Ok(k as u8);
+        }
+        let row = rows.len();
+        if row >= self.most {
+            return Err(SearchRefusal::TooMany);
+        }
+        rows.push(Row {
+            state,
+            next: [0; 16],
+        })?;
+        Ok(row as u8)
+    }
 }
 
 // Row `at` goes on to `row` by the letter.

@@ -1,14 +1,12 @@
 -- What a search says of the place sets of a pattern that was read, in words of the pattern's text.
-use Rattle.std.proofs.Common.{ℕ, ◌↔◌, List, Err, sym, ap, subst, subst₂}
+use Rattle.std.proofs.Common.{ℕ, ◌↔◌, List, sym, ap, subst, subst₂}
 use Rattle.alphabets.specs.Meaning.{Meaning}
 use Rattle.bitsets.proofs.Iff.{◌⇄◌}
 use Rattle.bitsets.specs.declared.SmallSet.{SmallSet}
 use Rattle.blocks.specs.Blocks.{state}
 use Rattle.blocks.specs.Laws.{Faithful, Leads}
 use Rattle.blocks.specs.Moves.{Moves, reached}
-use Rattle.blocks.specs.Search.{Declined, Found, Searched}
-use Rattle.blocks.specs.declared.refusal.SearchRefusal.{SearchRefusal}
-use Rattle.blocks.specs.declared.refusal.SearchRefusal.TheVariants.{TooMany, Memory}
+use Rattle.blocks.specs.Search.{Found}
 use Rattle.blocks.specs.declared.row.Row.{Row}
 use Rattle.expressions.proofs.Theorem.{places_know_whole}
 use Rattle.expressions.specs.Expr.{Expr}
@@ -21,8 +19,7 @@ use Rattle.patterns.specs.Texts.{IsText, TextSession, nodes}
 use Rattle.patterns.specs.declared.pattern.Pattern.{Pattern}
 use Rattle.places.proofs.Steps.{Leads_so}
 use Rattle.places.specs.Places.{place_moves}
-use Rattle.places.specs.Rows.{Tables, Tabled}
-use Rattle.places.specs.declared.refusal.RowsRefusal.TheVariants.{Rows}
+use Rattle.places.specs.Rows.{Tabled}
 
 -- p is the pattern that was read
 module _ (m : Meaning) (text : List ℕ) (most : ℕ) (p : Pattern) (a : Accepts m text p) where
@@ -35,17 +32,6 @@ module _ (m : Meaning) (text : List ℕ) (most : ℕ) (p : Pattern) (a : Accepts
   -- what holds of the pattern's expression and letters holds of its text's
   in_text : (P : Expr → ℕ → Type 0) → P (expr_of p) p.letters → P (expression (nodes m a.entries)) m.n
   in_text P = subst₂ P (ap expression a.nodes_are) a.letters
-
-  -- why there is no block
-  pub declined_so : (why : SearchRefusal) (room : ℕ) (rows : List (Row SmallSet)) → Searched moves most room (Err why) rows
-      → Tables m text most (Err (Rows why))
-  declined_so TooMany room rows h =
-      record {
-        entries = a.entries;
-        is_text = is_text;
-        declined = in_text (λ e n. Declined (place_moves e n) most) h.0;
-      }
-  declined_so Memory room rows h = tt
 
   module _ (rows : List (Row SmallSet)) (found : Found moves most rows) (laws : Faithful moves rows) where
     -- letters lead to an ending row exactly when they are a session

@@ -8,7 +8,7 @@ use patterns::Pattern;
 
 /// The place sets of a pattern: the start is place 0 alone, and a letter leads from some places to
 /// those that follow one of them and whose leaf holds it.
-#[derive(Clone, Copy)]
+#[derive(Clone, Copy, PartialEq, Eq, Debug)]
 pub struct PlaceSets<'p> {
     pub pattern: &'p Pattern,
 }
@@ -33,6 +33,6 @@ impl<'p> Automaton for PlaceSets<'p> {
     }
 
     fn same(&self, a: &SmallSet, b: &SmallSet) -> bool {
-        *a == *b
+        a == b
     }
 }

@@ -1,7 +1,0 @@
-use Rattle.std.proofs.Common.{ℕ, ◌<◌, get_or}
-use Rattle.blocks.proofs.exactness.all_step.Given as goal
-use Rattle.blocks.specs.Blocks.{Steps, origin}
-
--- the rows before this one step rightly
-abbrev pub invariant-loop-row : goal.invariant-loop-row
-invariant-loop-row g l = (i a : ℕ) → i < l.row-index → a < (g.A.Automaton.moves l.automaton).letters → Steps (g.A.Automaton.moves l.automaton) l.rows (get_or l.rows i (origin (g.A.Automaton.moves l.automaton))) a

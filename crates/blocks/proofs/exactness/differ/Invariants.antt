@@ -1,7 +1,0 @@
-use Rattle.std.proofs.Common.{ℕ, ◌<◌}
-use Rattle.blocks.proofs.exactness.differ.Given as goal
-use Rattle.blocks.specs.Blocks.{state}
-
--- the rows before this one differ
-abbrev pub invariant-loop-k : goal.invariant-loop-k
-invariant-loop-k g l = (i j : ℕ) → i < j → j < l.k → (g.A.Automaton.moves l.automaton).alike (state (g.A.Automaton.moves l.automaton) l.rows i) (state (g.A.Automaton.moves l.automaton) l.rows j) → ⊥
