@@ -2,15 +2,18 @@
 // the service alphabet, or with an argument n over the numbered alphabet of n letters.
 #![tactic(auto)]
 
-mod failure;
+mod refusal;
 
-use alphabets::{Alphabet, Numbered, Service};
+use alphabets::{Alphabet, AlphabetRefusal, Numbered, Service};
 use bitsets::SmallSet;
 use blocks::Row;
-use failure::Failure;
-use places::rows_of;
+use console::{Failure, contents};
+use places::{RowsRefusal, rows_of};
+use refusal::Refusal;
 use std::process::ExitCode;
-use std::{env, fs, io};
+use std::{env, io};
+
+const PROGRAM: &str = "rows";
 
 const PATTERN: &str = "pattern.txt";
 
@@ -18,54 +21,44 @@ const PATTERN: &str = "pattern.txt";
 const LIMIT: usize = 256;
 
 fn main(rt: HostRuntime) -> ExitCode {
-    match run(&rt) {
-        Ok(()) => ExitCode::SUCCESS,
-        Err(failure) => {
-            let _ = eprintln!(rt; "{failure}");
-            ExitCode::FAILURE
-        }
+    console::end(&rt, run(&rt))
+}
+
+fn run(rt: &HostRuntime) -> Result<(), Failure<Refusal>> {
+    let text = contents(rt, PATTERN)?;
+    let asked = alphabet_asked(rt).map_err(|refusal| Failure::Refused(PROGRAM, refusal))?;
+    // Two types of alphabet, so two calls of one generic function.
+    match asked {
+        Some(alphabet) => show(rt, &alphabet, text.as_slice()),
+        None => show(rt, &Service, text.as_slice()),
     }
 }
 
-fn run(rt: &HostRuntime) -> Result<(), Failure> {
-    let text = match fs::read(rt, PATTERN) {
-        Ok(bytes) => bytes,
-        Err(error) => return Err(Failure::Unread(error)),
+// The alphabet that the argument asks for, if there is an argument.
+fn alphabet_asked(rt: &HostRuntime) -> Result<Option<Numbered>, Refusal> {
+    let Some(word) = env::args(rt)?.nth(1) else {
+        return Ok(None);
     };
-    match letters_asked(rt) {
-        Ok(None) => show(rt, &Service, text.as_slice()),
-        Ok(Some(letters)) => match Numbered::new(letters) {
-            Ok(alphabet) => show(rt, &alphabet, text.as_slice()),
-            Err(refusal) => Err(Failure::Letters(refusal)),
-        },
-        Err(error) => Err(Failure::Unasked(error)),
-    }
+    let letters = word.parse().map_err(|_| AlphabetRefusal::Letters)?;
+    Ok(Some(Numbered::new(letters)?))
 }
 
-// The number of letters that the argument asks for, if there is one; 0 where it is no such number.
-fn letters_asked(rt: &HostRuntime) -> io::Result<Option<u8>> {
-    let mut words = env::args(rt)?;
-    let _ = words.next();
-    match words.next() {
-        Some(word) => Ok(Some(word.parse::<u8>().unwrap_or(0))),
-        None => Ok(None),
-    }
-}
-
-fn show<A: Alphabet>(rt: &HostRuntime, alphabet: &A, text: &[u8]) -> Result<(), Failure> {
-    match rows_of(rt.alloc(), alphabet, text, LIMIT) {
-        Ok(rows) => print_all(rt, alphabet.letters(), rows.as_slice()),
-        Err(refusal) => Err(Failure::Refused(refusal)),
-    }
-}
-
-fn print_all(rt: &HostRuntime, letters: u8, rows: &[Row<SmallSet>]) -> Result<(), Failure> {
-    for row in rows {
-        if let Err(error) = print_row(rt, letters, row) {
-            return Err(Failure::Unwritten(error));
-        }
+fn show<A: Alphabet>(rt: &HostRuntime, alphabet: &A, text: &[u8]) -> Result<(), Failure<Refusal>> {
+    let rows = rows_of(rt.alloc(), alphabet, text, LIMIT).map_err(refused)?;
+    let letters = alphabet.letters();
+    for row in rows.as_slice() {
+        print_row(rt, letters, row).map_err(Failure::Unwritten)?;
     }
     Ok(())
+}
+
+// A text is refused under its file's name, and the search in it under the program's.
+fn refused(refusal: RowsRefusal) -> Failure<Refusal> {
+    let name = match refusal {
+        RowsRefusal::Text(_) => PATTERN,
+        RowsRefusal::Rows(_) => PROGRAM,
+    };
+    Failure::Refused(name, Refusal::Rows(refusal))
 }
 
 // The state and its next rows, as in `1,1,2`.
