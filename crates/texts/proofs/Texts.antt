@@ -3,7 +3,7 @@ use Rattle.std.proofs.Common.{◌≤◌, ◌≡◌, ℕ, zero, suc, ◌+◌, ◌
 use Rattle.std.specs.List.{AllByRecursion}
 use Rattle.std.specs.Int.{IsInRange}
 use Rattle.std.proofs.lemmas.Bool.{cases_Bool, eqb-true, eqb-false, eq-eqb, ne_eqb, cond-true, cond-false}
-use Rattle.std.proofs.lemmas.List.{length-append}
+use Rattle.std.proofs.lemmas.List.{drop-drop, length-append}
 use Rattle.std.proofs.lemmas.Str.Parse.{not_in_digits}
 use Rattle.std.proofs.lemmas.Fmt.{digits_decimal, decimal_injective}
 use Rattle.texts.specs.Parts.{Lacks, Parts, split, onto, joined}
@@ -172,21 +172,31 @@ Spelt_alike w (Word a) (Word b) s v = s.0 ∙ sym v.0
 pub gave_shorter : {before : Cursor} {l : Line} {after : Cursor} → Gave before l after → length (line_bytes l) + 1 + length (rest after) ≡ length (rest before)
 gave_shorter {before} {l} {after} g = Parts-length 10 (rest before) (line_bytes l) (rest after) g.parts
 
--- ---- a line hands out a field: one before a comma, or the last
-abbrev left_fields : Option (Bor (List ℕ)) → List (List ℕ)
-left_fields o = elim o [ Some b ↦ split 44 b.now | None ↦ [] ]
+-- ---- the parts of what stands at or after an index
+pub found_on : (xs w a : List ℕ) (from k : ℕ) → w ≡ drop from xs → Parts 44 w a (drop (k + 1) w) → Parts 44 (drop from xs) a (drop (from + k + 1) xs)
+found_on xs w a from k is parts =
+    let on : from + (k + 1) ≡ from + k + 1 = omega arith in
+    subst (Parts 44 (drop from xs) a) (ap (drop (k + 1)) is ∙ drop-drop (k + 1) from xs ∙ ap (λ n. drop n xs) on) (subst (λ v. Parts 44 v a (drop (k + 1) w)) is parts)
 
-pub took_front : (before after : Line) (t : Token) (a : List ℕ) (left rest : _) → before.left ≡ Some left → after.left ≡ Some rest → Parts 44 left.now a rest.now → Spelt a t → Took before t after
-took_front before after t a left rest from to parts spelt = record {
+-- ---- a line hands out a field: one before a comma, or the last
+abbrev left_fields : List ℕ → Option ℕ → List (List ℕ)
+left_fields bytes o = elim o [ Some k ↦ split 44 (drop k bytes) | None ↦ [] ]
+
+pub took_front : (before after : Line) (t : Token) (a : List ℕ) (from to : ℕ) → before.at ≡ Some from → after.at ≡ Some to → after.bytes ≡ before.bytes → Parts 44 (drop from before.bytes.now) a (drop to before.bytes.now) → Spelt a t → Took before t after
+took_front before after t a from to was is same parts spelt = record {
   word = a;
-  split_off = ap left_fields from ∙ split_parts 44 left.now a rest.now parts ∙ ap (λ fs. a ∷ fs) (sym (ap left_fields to));
+  split_off =
+      ap (left_fields before.bytes.now) was ∙ split_parts 44 (drop from before.bytes.now) a (drop to before.bytes.now) parts
+      ∙ ap (λ fs. a ∷ fs) (sym (ap (left_fields after.bytes.now) is ∙ ap (λ (b : Bor (List ℕ)). split 44 (drop to b.now)) same));
   spelt = spelt;
 }
 
-pub took_last : (before after : Line) (t : Token) (left : _) → before.left ≡ Some left → after.left ≡ None → Lacks 44 left.now → Spelt left.now t → Took before t after
-took_last before after t left from to lacks spelt = record {
-  word = left.now;
-  split_off = ap left_fields from ∙ split-Lacks 44 left.now lacks ∙ ap (λ fs. left.now ∷ fs) (sym (ap left_fields to));
+pub took_last : (before after : Line) (t : Token) (from : ℕ) → before.at ≡ Some from → after.at ≡ None → Lacks 44 (drop from before.bytes.now) → Spelt (drop from before.bytes.now) t → Took before t after
+took_last before after t from was is lacks spelt = record {
+  word = drop from before.bytes.now;
+  split_off =
+      ap (left_fields before.bytes.now) was ∙ split-Lacks 44 (drop from before.bytes.now) lacks
+      ∙ ap (λ fs. drop from before.bytes.now ∷ fs) (sym (ap (left_fields after.bytes.now) is));
   spelt = spelt;
 }
 

@@ -20,7 +20,7 @@ line_bytes l = l.bytes.now
 
 -- the fields of a line that have not been handed out
 abbrev pub fields_left : Line → List (List ℕ)
-fields_left l = elim l.left [ Some b ↦ split 44 b.now | None ↦ [] ]
+fields_left l = elim l.at [ Some k ↦ split 44 (drop k l.bytes.now) | None ↦ [] ]
 
 -- no field has been handed out
 abbrev pub Fresh : Line → Type 0

@@ -1,5 +1,5 @@
 ghost use Rattle.std.proofs.Props.{props};
-ghost use Rattle.std.specs.Prelude.{◌≡◌, ◌-◌, [], length, drop, Decides, IfSome};
+ghost use Rattle.std.specs.Prelude.{◌≡◌, ◌≤◌, [], length, Decides, IfSome};
 
 use super::fields::Token;
 use super::find::first_at;
@@ -17,9 +17,9 @@ pub struct Cursor<'a> {
 #[derive(Clone, Copy, PartialEq, Eq, Debug)]
 pub struct Line<'a> {
     bytes: &'a [u8],
-    // The fields that have not been handed out, if one is left: an end of the bytes.
-    left: Option<&'a [u8]>,
-    ghost end: { IfSome left (λ l. l.now ≡ drop (length bytes.now - length l.now) bytes.now) } by { Prim.hlevel props },
+    // Where the fields that have not been handed out begin, if one is left.
+    at: Option<usize>,
+    ghost inside: { IfSome at (λ k. k ≤ length bytes.now) } by { Prim.hlevel props },
 }
 
 impl<'a> Cursor<'a> {
@@ -41,10 +41,7 @@ impl<'a> Cursor<'a> {
         let end = first_at(self.text, self.at, b'\n')?;
         let bytes = &self.text[self.at..end];
         self.at = end + 1;
-        Some(Line {
-            bytes,
-            left: Some(bytes),
-        })
+        Some(Line { bytes, at: Some(0) })
     }
 
     /// Whether nothing is left of the text.
@@ -71,10 +68,11 @@ impl<'a> Line<'a> {
         ensures field { NextField self.old result self.new }
         ensures bytes { self.new.bytes ≡ self.old.bytes }
     {
-        let left = self.left.take()?;
+        let at = self.at.take()?;
+        let left = &self.bytes[at..];
         match first_at(left, 0, b',') {
             Some(end) => {
-                self.left = Some(&left[end + 1..]);
+                self.at = Some(at + end + 1);
                 Some(token(&left[..end]))
             }
             None => Some(token(left)),

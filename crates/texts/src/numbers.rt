@@ -1,19 +1,69 @@
+ghost use Rattle.std.specs.Prelude.{◌≡◌, ◌<◌, ◌≤◌, length, decimal};
 ghost use Rattle.texts.specs.Numbers.{Writes};
 
-use itoa::Buffer;
+use itoa::write_digits;
 
 /// Writes the number's digits to the front of the buffer, and says how many they are.
 /// Where the buffer is too short nothing is written.
 // A buffer that is handed in and a length, so that writing allocates nothing.
+#[inline(always)]
 pub fn write_number(buffer: &mut [u8], number: u64) -> Option<usize>
     ensures { Writes number buffer.old result buffer.new }
 {
-    let mut spelling = Buffer::new();
-    let digits = spelling.format(number).as_bytes();
-    let len = digits.len();
+    if number < 10 {
+        write_digit(buffer, number as u8)
+    } else {
+        write_longer(buffer, number)
+    }
+}
+
+// A number of one digit, which is its own spelling.
+#[inline(always)]
+fn write_digit(buffer: &mut [u8], digit: u8) -> Option<usize>
+    requires { digit < 10 }
+    ensures { Writes digit buffer.old result buffer.new }
+{
+    if buffer.is_empty() {
+        return None;
+    }
+    buffer[0] = b'0' + digit;
+    Some(1)
+}
+
+// Any number; its digits are counted first, and written where they are to stand.
+fn write_longer(buffer: &mut [u8], number: u64) -> Option<usize>
+    ensures { Writes number buffer.old result buffer.new }
+{
+    let len = digits(number);
     if buffer.len() < len {
         return None;
     }
-    buffer[..len].copy_from_slice(digits);
+    let _ = write_digits(number, buffer, len);
     Some(len)
+}
+
+// How many digits the number has, counted by fours.
+fn digits(number: u64) -> usize
+    ensures { result ≡ length (decimal number) }
+{
+    let mut len = 0;
+    let mut n = number;
+    while n >= 10_000 {
+        n /= 10_000;
+        len += 4;
+    }
+    len + few_digits(n)
+}
+
+// How many of at most four.
+fn few_digits(n: u64) -> usize
+    requires { n < 10000 }
+    ensures { result ≡ length (decimal n) }
+{
+    match n {
+        0..=9 => 1,
+        10..=99 => 2,
+        100..=999 => 3,
+        _ => 4,
+    }
 }
