@@ -64,9 +64,10 @@ impl<'a, A: Automaton> Block<'a, A> {
     fn steps(&self, row: &Row<A::State>) -> bool
         ensures { let m = A.moves self.now.automaton.now in Decides result ((a : ℕ) → a < m.letters → Steps m self.now.rows.now row.now a) }
     {
-        (0..self.automaton.letters())
-            .zip(&row.next)
-            .all(|(letter, next)| self.leads_to(row, letter, *next))
+        row.next[..self.automaton.letters() as usize]
+            .iter()
+            .enumerate()
+            .all(|(letter, next)| self.leads_to(row, letter as u8, *next))
     }
 
     // Whether the letter leads to the row `next`: that row is there and has the state after it.
@@ -75,9 +76,10 @@ impl<'a, A: Automaton> Block<'a, A> {
         ensures { let m = A.moves self.now.automaton.now in Decides result ((next < length self.now.rows.now) × m.alike (state m self.now.rows.now next) (m.step row.now.state letter)) }
     {
         let Block { automaton, rows } = self;
-        let state = automaton.step(&row.state, letter);
-        rows.get(next as usize)
-            .is_some_and(|after| automaton.same(&after.state, &state))
+        let Some(after) = rows.get(next as usize) else {
+            return false;
+        };
+        automaton.same(&after.state, &automaton.step(&row.state, letter))
     }
 
     // Whether every later row comes next after some row before it: one pass, in which the rows that
