@@ -31,6 +31,7 @@ impl Draft {
     }
 
     // One node more, or why it is refused.
+    #[inline(always)]
     pub(crate) fn with(self, node: Node) -> Result<Draft, PatternRefusal>
         requires { Within (vec_len self.stack.holders) node }
         ensures { Pushes self node result }

@@ -61,6 +61,7 @@ fn leaf_for<A: Alphabet>(alphabet: &A, code: u32) -> Option<Node>
 }
 
 // One line more in the draft.
+#[inline(always)]
 fn add<A: Alphabet>(
     alphabet: &A,
     kind: Kind,
