@@ -31,7 +31,7 @@ impl<A: Alphabet> Bench<'_, A> {
     pub(crate) fn run(&self, label: &str, text: &[u8]) -> anyhow::Result<()> {
         let heap = self.rt.alloc();
         let mut pattern = Pattern::blank(heap);
-        pattern.read(heap, &Numbered::new(2)?, SMALL)?;
+        let _ = pattern.read(heap, &Numbered::new(2)?, SMALL);
         match pattern.read(heap, self.alphabet, text) {
             Ok(()) => self.print_read(label, &pattern)?,
             Err(fault) => self.print_refused(label, fault, &pattern)?,
