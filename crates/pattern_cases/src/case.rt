@@ -31,6 +31,7 @@ impl<A: Alphabet> Bench<'_, A> {
     pub(crate) fn run(&self, label: &str, text: &[u8]) -> anyhow::Result<()> {
         let heap = self.rt.alloc();
         let mut pattern = Pattern::blank(heap);
+        // what can't be read for want of memory leaves the pattern blank, and the case goes on
         let _ = pattern.read(heap, &Numbered::new(2)?, SMALL);
         match pattern.read(heap, self.alphabet, text) {
             Ok(()) => self.print_read(label, &pattern)?,

@@ -21,6 +21,7 @@ const PATTERNS: [Row; 5] = [
 pub(crate) fn run(two: &Bench<'_, Numbered>) -> anyhow::Result<()> {
     for (label, text) in PATTERNS.iter() {
         let mut pattern = Pattern::blank(two.rt.alloc());
+        // a text that can't be read leaves the pattern blank, which accepts no word
         let _ = pattern.read(two.rt.alloc(), two.alphabet, text);
         print_words(two.rt, label, &pattern)?;
     }

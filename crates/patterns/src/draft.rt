@@ -30,7 +30,7 @@ impl Draft {
         })
     }
 
-    // One node more, or why it is refused.
+    // One node more, or why it is refused. Inlined, as its caller is, or the draft is copied at each node.
     #[inline(always)]
     pub(crate) fn with(self, node: Node) -> Result<Draft, PatternRefusal>
         requires { Within (vec_len self.stack.holders) node }

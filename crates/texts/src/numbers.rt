@@ -5,7 +5,8 @@ use itoa::write_digits;
 
 /// Writes the number's digits to the front of the buffer, and says how many they are.
 /// Where the buffer is too short nothing is written.
-// A buffer that is handed in and a length, so that writing allocates nothing.
+// A buffer that is handed in and a length, so that writing allocates nothing. Inlined, as writing one digit
+// is, so that this costs a caller a test and a store.
 #[inline(always)]
 pub fn write_number(buffer: &mut [u8], number: u64) -> Option<usize>
     ensures { Writes number buffer.old result buffer.new }
@@ -30,7 +31,8 @@ fn write_digit(buffer: &mut [u8], digit: u8) -> Option<usize>
     Some(1)
 }
 
-// Any number; its digits are counted first, and written where they are to stand.
+// A number of more digits, though any would be written right: they are counted first, to see whether they fit,
+// and to write them so that they end where they do from the front of the buffer.
 fn write_longer(buffer: &mut [u8], number: u64) -> Option<usize>
     ensures { Writes number buffer.old result buffer.new }
 {
